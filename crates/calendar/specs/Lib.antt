@@ -1,0 +1,9 @@
+pub mod Alarm
+pub mod Earliest
+pub mod Locations
+pub mod Moments
+pub mod Of
+pub mod Reading
+pub mod Refusals
+pub mod Specimens
+pub mod Time

@@ -1,0 +1,4 @@
+pub mod Accepted
+pub mod Capped
+pub mod Locations
+pub mod Spelled
