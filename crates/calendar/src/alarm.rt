@@ -11,7 +11,7 @@ use crate::location::LOCATIONS;
 use crate::location::Location;
 
 /// The alarm's bytes for the second, the minute, the hour and the date.
-#[derive(Clone, Copy, Debug)]
+#[derive(Clone, Copy)]
 pub struct Alarm {
     pub bytes: [u8; 4],
 }

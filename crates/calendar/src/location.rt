@@ -7,7 +7,7 @@ ghost use mathlib.Core.Path.{_≡_};
 use crate::fault::CalendarFault;
 
 /// One clock location: its register number, the mask of its digits, and the range of its numbers.
-#[derive(Clone, Copy, PartialEq, Eq, Debug)]
+#[derive(Clone, Copy)]
 pub struct Location {
     pub number: u8,
     pub mask: u8,
