@@ -1,13 +1,13 @@
 -- Seven locations that were read in are shown again, and a time that is shown is read back.
 -- Assumes nothing.
-use mathlib.Core.Bool.{true, cond, _||_}
+use mathlib.Core.Bool.{true}
 use mathlib.Core.List.{List, [], _∷_}
 use mathlib.Core.Path.{_≡_, refl, sym, ap, _∙_}
-use Prim.Native.Nat.{ℕ, zero, suc, _-_, _%_, _≤_, _<_}
+use Prim.Native.Nat.{ℕ, zero, suc, _≤_, _<_}
 use native.Mathlib.Omega.{arith}
-use lib.Dec.{leb, eqb, lit≤}
+use lib.Dec.{leb}
 use lib.ListN.{length, getD}
-use Rattle.std.proofs.shelf.Tests.{le-leb, cond-true, cond-both}
+use Rattle.std.proofs.shelf.Tests.{le-leb, cond-true}
 use Rattle.std.specs.declared.option.Option.{Option}
 use Rattle.std.specs.declared.option.Option.the-variants.{Some, None}
 use Rattle.std.specs.declared.result.Result.the-variants.{Ok}
@@ -16,14 +16,8 @@ use Rattle.calendar.specs.Reading.{byte-at, lowest-fault, date-in, time-in, la
 use Rattle.calendar.specs.Time.{Time, Exists}
 use Rattle.calendar.specs.declared.location.Location.{Location}
 use Rattle.dates.specs.Dates.{Date, month-length}
+use Rattle.dates.proofs.Lengths.{month-length-most}
 use Rattle.calendar.proofs.Digits.{shown-again, read-again}
-
-pub month-length-most : (y m : ℕ) → month-length y m ≤ 31
-month-length-most y m =
-    let P : ℕ → Type 0 = λ n. n ≤ 31 in
-    cond-both (eqb m 2) (cond (eqb (y % 4) 0) 29 28) (cond (eqb m 4 || (eqb m 6 || (eqb m 9 || eqb m 11))) 30 31) P
-    (λ _. cond-both (eqb (y % 4) 0) 29 28 P (λ _. lit≤ tt) (λ _. lit≤ tt))
-    (λ _. cond-both (eqb m 4 || (eqb m 6 || (eqb m 9 || eqb m 11))) 30 31 P (λ _. lit≤ tt) (λ _. lit≤ tt))
 
 -- the first n values of f
 abbrev row : ℕ → (ℕ → ℕ) → List ℕ

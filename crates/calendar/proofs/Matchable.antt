@@ -3,18 +3,18 @@
 use mathlib.Core.Bool.{Bool, true, _&&_}
 use mathlib.Core.List.{List}
 use mathlib.Core.Path.{_≡_}
-use Prim.Native.Nat.{ℕ, _+_, _≤_}
+use Prim.Native.Nat.{ℕ, _+_}
 use native.Mathlib.Omega.{arith}
 use lib.Dec.{leb}
 use lib.ListN.{getD}
 use Rattle.std.proofs.shelf.Tests.{and-from, and-parts, le-leb, leb-true}
 use Rattle.dates.specs.Dates.{Between}
+use Rattle.dates.proofs.Lengths.{month-length-most}
 use Rattle.calendar.specs.Alarm.{heard, matches, hearable, matchable, Matchable}
 use Rattle.calendar.specs.Locations.{seconds, minutes, hours, date}
 use Rattle.calendar.specs.Time.{Time, Exists}
 use Rattle.calendar.specs.declared.location.Location.{Location}
 use Rattle.calendar.proofs.Finds.{some-passes, passes-some}
-use Rattle.calendar.proofs.Locations.{month-length-most}
 
 hearable-from : (l : Location) (byte n : ℕ) → Between (l .low) (l .high) n → heard l byte n ≡ true → hearable l byte ≡ true
 hearable-from l byte n range h =

@@ -1,6 +1,6 @@
 -- The instants that an alarm matches, day by day: an alarm that matches any instant at all matches one within 61 days.
 -- Assumes nothing.
-use mathlib.Core.Bool.{Bool, true, false, _&&_}
+use mathlib.Core.Bool.{Bool, true}
 use mathlib.Core.List.{List}
 use mathlib.Core.Logic.{_⊎_, inl, inr}
 use mathlib.Core.Path.{_≡_, sym, ap, subst, _∙_}
@@ -9,14 +9,14 @@ use native.Mathlib.Omega.{arith}
 use Rattle.std.proofs.shelf.Tests.{cases-lt}
 use Rattle.std.specs.declared.option.Option.the-variants.{Some}
 use Rattle.steps.specs.Iterate.{iterate}
-use Rattle.dates.specs.Dates.{Date, date-after, month-length}
+use Rattle.dates.specs.Dates.{date-after}
+use Rattle.dates.proofs.Lengths.{month-length-most}
 use Rattle.dates.proofs.Recurs.{comes-from, comes-later}
 use Rattle.calendar.specs.Alarm.{matches, Rings, Silent, First}
 use Rattle.calendar.specs.Moments.{second-of-day, at-second}
 use Rattle.calendar.specs.Earliest.{Quiet, Earliest, on-date}
 use Rattle.calendar.specs.Time.{Time, Exists, next}
 use Rattle.calendar.proofs.Finds.{quiet-join}
-use Rattle.calendar.proofs.Locations.{month-length-most}
 use Rattle.calendar.proofs.Moments.{advanced, steps-exist}
 
 -- whether the alarm matches at the second s, counted from the midnight before t

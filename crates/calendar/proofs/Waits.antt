@@ -1,6 +1,6 @@
 -- The longest wait for an alarm, and an alarm that never matches.
 -- Assumes nothing.
-use mathlib.Core.Bool.{Bool, true, false, not, _&&_}
+use mathlib.Core.Bool.{Bool, true, false, not}
 use mathlib.Core.List.{List, [], _∷_}
 use mathlib.Core.Path.{_≡_, refl, sym, ap, _∙_}
 use Prim.Native.Nat.{ℕ, _+_, _-_, _*_, _/_, _%_, _≤_, _<_}
@@ -8,14 +8,13 @@ use native.Mathlib.Omega.{arith}
 use lib.Dec.{T}
 use Rattle.std.proofs.shelf.Tests.{and-parts, both-ways, eqb-true, false≢true}
 use Rattle.dates.proofs.Sweeps.{all-below, all-at}
-use Rattle.dates.specs.Dates.{Date, date-after}
+use Rattle.dates.specs.Dates.{date-after}
 use Rattle.steps.specs.Iterate.{iterate}
-use Rattle.calendar.specs.Alarm.{heard, some-below, matchable}
+use Rattle.calendar.specs.Alarm.{heard, some-below}
 use Rattle.calendar.specs.Locations.{seconds, minutes, hours, date}
-use Rattle.calendar.specs.Moments.{at-second}
 use Rattle.calendar.specs.Earliest.{Quiet, in-hour, in-day, on-date}
 use Rattle.calendar.specs.Specimens.{march-noon, Longest-wait, No-such-date}
-use Rattle.calendar.specs.Time.{Time, Exists, next}
+use Rattle.calendar.specs.Time.{next}
 use Rattle.calendar.proofs.Finds.{quiet-join}
 use Rattle.calendar.proofs.Matchable.{some-match}
 use Rattle.calendar.proofs.Moments.{steps-exist}

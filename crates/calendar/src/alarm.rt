@@ -2,8 +2,8 @@
 
 ghost use Prim.Native.Nat.{_+_, _≤_};
 ghost use Rattle.calendar.specs.Alarm.{Matchable, heard, hearable, matchable, matches};
-ghost use Rattle.calendar.specs.Of.{time-of};
 ghost use Rattle.calendar.specs.Earliest.{Earliest};
+ghost use Rattle.calendar.specs.Of.{time-of};
 ghost use mathlib.Core.Bool.{true};
 ghost use mathlib.Core.Path.{_≡_};
 use crate::counters::Counters;

@@ -2,9 +2,8 @@
 
 ghost use Prim.Native.Nat.{_+_, _*_, _/_, _≤_, _<_};
 ghost use Rattle.calendar.specs.Alarm.{Answers};
-ghost use Rattle.calendar.specs.Of.{time-of};
 ghost use Rattle.calendar.specs.Earliest.{Earliest, in-day, in-hour, on-date};
-ghost use mathlib.Core.Path.{_≡_};
+ghost use Rattle.calendar.specs.Of.{time-of};
 use crate::alarm::Alarm;
 use crate::counters::Counters;
 use crate::location::LOCATIONS;

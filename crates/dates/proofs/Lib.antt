@@ -1,3 +1,4 @@
 pub mod Days
+pub mod Lengths
 pub mod Recurs
 pub mod Sweeps

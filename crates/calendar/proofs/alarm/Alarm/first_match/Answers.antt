@@ -1,7 +1,7 @@
 -- Day by day the silence grows, until a match is found or nothing can match any more.
 -- Assumes nothing.
 use mathlib.Core.Path.{_≡_, sym, ap, subst, _∙_}
-use Prim.Native.Nat.{ℕ, _+_, _-_, _*_}
+use Prim.Native.Nat.{_+_, _-_, _*_}
 use native.Mathlib.Omega.{arith}
 use Rattle.std.proofs.shelf.Tests.{false≢true}
 use Rattle.steps.specs.Iterate.{iterate}

@@ -1,7 +1,6 @@
 -- Where each location stands and the month has the date, the digits are those of the counters.
 -- Assumes nothing.
 use borrow.Author.Needs.{needs}
-use native.Mathlib.Omega.{arith}
 use Rattle.calendar.specs.Time.{Time}
 use Rattle.calendar.proofs.Locations.{shows-again}
 use Rattle.calendar.proofs.counters.Counters.from_locations.Needs as need

@@ -1,8 +1,6 @@
 -- Each location shows its counter, and what they show is read back.
 -- Assumes nothing.
-use mathlib.Core.List.{List}
 use mathlib.Core.Path.{_≡_, ap, _∙_}
-use Prim.Native.Nat.{ℕ}
 use borrow.Author.Needs.{needs}
 use Rattle.calendar.specs.Of.{time-of}
 use Rattle.calendar.specs.Reading.{locations-of, reading}
