@@ -5,7 +5,7 @@ ghost use Rattle.dates.specs.Of.{date-of};
 ghost use mathlib.Core.Path.{_≡_};
 use crate::date::CalendarDate;
 
-/// How many days a month has, in a year from 00 to 99.
+/// How many days a month has, in a year from 00 to 99; 31 for a number that is no month.
 pub fn month_length(year: u8, month: u8) -> u8
     ensures { λ r. ⌜ r ≡ month-length year month ⌝ }
 {
