@@ -1,10 +1,14 @@
 //! Shows what a wait counts under control bytes of one's choice.
+
+#![tactic(auto)]
+
 mod timing;
 mod wait;
 
 use seconds::counts::Counts;
 use std::alloc::AllocFailed;
 use std::env::Args;
+use std::process::ExitCode;
 use std::{env, fmt, io};
 use timing::time_waits;
 use wait::{Waited, wait};
@@ -122,12 +126,12 @@ fn run(rt: &HostRuntime) -> Result<(), Failure> {
     Ok(())
 }
 
-fn main(rt: HostRuntime) -> Result<(), Failure> {
+fn main(rt: HostRuntime) -> ExitCode {
     match run(&rt) {
-        Ok(()) => Ok(()),
+        Ok(()) => ExitCode::SUCCESS,
         Err(failure) => {
             let _ = eprintln!(rt; "bench_seconds: {failure}");
-            Err(failure)
+            ExitCode::FAILURE
         }
     }
 }

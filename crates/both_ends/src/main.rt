@@ -1,4 +1,7 @@
 //! Stores the same bytes into both kinds of memory, and shows that both hold the same.
+
+#![tactic(auto)]
+
 mod arguments;
 mod ends;
 mod report;
@@ -10,6 +13,7 @@ use memory::byte_memory::ByteMemory;
 use memory::word_memory::WordMemory;
 use report::Told;
 use std::alloc::AllocFailed;
+use std::process::ExitCode;
 use std::{env, fmt, io};
 use stores::{Store, bytes_held};
 
@@ -127,7 +131,7 @@ fn run(rt: &HostRuntime) -> Result<(), Failure> {
     let Some(first) = env::args(rt)?.nth(1) else {
         return Err(Failure::NoArguments);
     };
-    if first == "--help" || first == "-h" {
+    if first.as_str() == "--help" || first.as_str() == "-h" {
         rt.print(HELP)?;
         return Ok(());
     }
@@ -137,12 +141,12 @@ fn run(rt: &HostRuntime) -> Result<(), Failure> {
     Ok(())
 }
 
-fn main(rt: HostRuntime) -> Result<(), Failure> {
+fn main(rt: HostRuntime) -> ExitCode {
     match run(&rt) {
-        Ok(()) => Ok(()),
+        Ok(()) => ExitCode::SUCCESS,
         Err(failure) => {
             let _ = eprintln!(rt; "both_ends: {failure}");
-            Err(failure)
+            ExitCode::FAILURE
         }
     }
 }

@@ -4,7 +4,7 @@ use Rattle.std.proofs.Common.{◌≡◌, ℕ, ◌+◌, Bool, true, ◌&&◌, leb
 use Rattle.std.proofs.lemmas.Bool.{and_from, and_parts, le-leb, leb-true}
 use Rattle.dates.specs.Dates.{Between}
 use Rattle.dates.proofs.Lengths.{month_length_most}
-use Rattle.calendar.specs.Alarm.{heard, matches, hearable, matchable, Matchable}
+use Rattle.calendar.specs.Alarm.{heard, hearable, matchable, Matchable}
 use Rattle.calendar.specs.Locations.{seconds, minutes, hours, date}
 use Rattle.calendar.specs.Time.{Time, Exists}
 use Rattle.calendar.specs.declared.location.Location.{Location}

@@ -1,5 +1,7 @@
 //! The clock's calendar: its seven locations, the counters behind them, and the alarm.
 
+#![tactic(auto)]
+
 pub mod alarm;
 pub mod counters;
 pub mod fault;

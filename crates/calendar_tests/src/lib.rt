@@ -1,5 +1,7 @@
 //! The compiled calendar, run on examples and held against going on second by second.
 
+#![tactic(auto)]
+
 #[cfg(test)]
 mod tests {
     use calendar::alarm::Alarm;

@@ -16,7 +16,7 @@ pub struct WordMemory<'a> {
 }
 
 impl<'a> Memory for WordMemory<'a> {
-    type Frame = &'a [u32];
+    type Frame = &'a mut [u32];
 
     ghost bytes = { λ m. bytes_of m.words.now };
 

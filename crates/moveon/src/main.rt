@@ -1,4 +1,7 @@
 //! Moves clocks on by a number of seconds, a line of the input each.
+
+#![tactic(auto)]
+
 mod answer;
 mod digits;
 mod field;
@@ -8,6 +11,7 @@ mod report;
 use answer::answer_to;
 use report::Report;
 use std::io::{BufRead, BufReader, BufWriter, Write};
+use std::process::ExitCode;
 use std::{env, fmt, io};
 
 const HELP: &str = "moveon: moves a clock on by a number of seconds.
@@ -69,7 +73,7 @@ fn run(rt: &HostRuntime) -> Result<(), Failure> {
     match env::args(rt)?.nth(1) {
         None => answer_all(rt)?,
         Some(argument) => {
-            if argument != "--help" && argument != "-h" {
+            if argument.as_str() != "--help" && argument.as_str() != "-h" {
                 return Err(Failure::Argument(argument));
             }
             rt.print(HELP)?;
@@ -78,12 +82,12 @@ fn run(rt: &HostRuntime) -> Result<(), Failure> {
     Ok(())
 }
 
-fn main(rt: HostRuntime) -> Result<(), Failure> {
+fn main(rt: HostRuntime) -> ExitCode {
     match run(&rt) {
-        Ok(()) => Ok(()),
+        Ok(()) => ExitCode::SUCCESS,
         Err(failure) => {
             let _ = eprintln!(rt; "moveon: {failure}");
-            Err(failure)
+            ExitCode::FAILURE
         }
     }
 }

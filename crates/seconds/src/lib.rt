@@ -1,6 +1,8 @@
 //! The divider of the clock: it turns units of 1/32,768 s into seconds, some of them shortened or lengthened by the
 //! calibration.
 
+#![tactic(auto)]
+
 mod advance;
 pub mod calibration;
 mod control;

@@ -1,5 +1,7 @@
 //! The compiled divider, run on examples and held against going on unit by unit.
 
+#![tactic(auto)]
+
 #[cfg(test)]
 mod tests {
     use seconds::calibration::Calibration;

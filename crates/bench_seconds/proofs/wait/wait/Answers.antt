@@ -17,7 +17,7 @@ shown run = record { counts = run.counts; remainder = run.running.gone }
 
 pub returns : goal.returns
 returns c =
-    let k : Calibration = c.from-control-calibration.result in
+    let k : Calibration = c.from_control-calibration.result in
     let units : ℕ = c.args.units in
     let start = c.begin-divider.ensures in
     let after = c.advance-counts.ensures in
@@ -25,16 +25,16 @@ returns c =
     let runs : run ≡ since_new_cycle (calibration_in c.args.control) units =
     after.runs
     ∙ (ap (λ (r : Running). iterate (unit k) units (begun r)) start
-    ∙ ap (λ (j : Calibration). since_new_cycle j units) c.from-control-calibration.ensures) in
+    ∙ ap (λ (j : Calibration). since_new_cycle j units) c.from_control-calibration.ensures) in
     let numbered : Numbered k 0 (running_of c.begin-divider.result) = record { index = ap (λ (r : Running). r.index) start; length = ap (λ (r : Running). r.length) start } in
     let formula = (after.corrected 0 numbered).formula in
     let seconds : ℕ = c.advance-counts.result.seconds in
     let all : 0 + seconds ≡ seconds = omega arith in
     record {
       is = ap shown runs;
-      adds-up = record {
+      adds_up = record {
         units_accounted = omega (arith, after.accounted, ap (λ (r : Running). r.gone) start);
         corrected_by_formula =
-            omega (arith, formula, corrected_none k, ap (corrected k) all) ∙ ap (λ (j : Calibration). corrected j seconds) c.from-control-calibration.ensures;
+            omega (arith, formula, corrected_none k, ap (corrected k) all) ∙ ap (λ (j : Calibration). corrected j seconds) c.from_control-calibration.ensures;
       };
     }

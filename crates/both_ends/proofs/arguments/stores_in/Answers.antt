@@ -11,8 +11,8 @@ returns-then-place-numbers c = search (rules, pairs_half)
 pub returns-then-number-gt255 : goal.returns-then-number-gt255
 returns-then-number-gt255 c = search (rules, pairs_large)
 
-pub returns-in-err-push : goal.returns-in-err-push
-returns-in-err-push c = let p = err_from_is_err_and c.from-residual.result c.from-residual.ensures.1 in rw (p.1, p.2) tt
+pub returns-in_err-push : goal.returns-in_err-push
+returns-in_err-push c = let p = err_from_is_err_and c.from_residual.result c.from_residual.ensures.1 in rw (p.1, p.2) tt
 
 pub loop-place-preserved : goal.loop-place-preserved
 loop-place-preserved c = search (rules, pairs_more)

@@ -9,9 +9,9 @@ use Rattle.both_ends.proofs.ends.store_in_words.Goals as goal
 pub returns : goal.returns
 returns c =
     let words = c.args.words.now in
-    let bytes = all_or_none (is_ok c.store-all.result) (bytes_of words) c.args.stores.now in
+    let bytes = all_or_none (is_ok c.store_all.result) (bytes_of words) c.args.stores.now in
     record {
       answers = search rules;
       bytes = search rules;
-      words = known _ words bytes (λ i. omega (arith, c.type-inv.words i)) (search rules) (search rules);
+      words = known _ words bytes (λ i. omega (arith, c.type_inv.words i)) (search rules) (search rules);
     }

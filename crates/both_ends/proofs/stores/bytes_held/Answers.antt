@@ -3,11 +3,11 @@
 use Rattle.std.proofs.Common.{rules}
 use Rattle.std.proofs.lemmas.List.{take_more, take_all}
 use Rattle.both_ends.proofs.stores.bytes_held.Goals as goal
-use Rattle.both_ends.proofs.stores.bytes_held.Goals.{in-Ok+in-ok-push, in-default}
+use Rattle.both_ends.proofs.stores.bytes_held.Goals.{in-Ok+in_ok-push, in_default}
 
 pub loop-address-preserved : goal.loop-address-preserved
 loop-address-preserved g c =
-    elim c.match-look.branch [ in-Ok+in-ok-push w ↦ search (rules, take_more) | in-default w ↦ search rules ]
+    elim c.match-look.branch [ in-Ok+in_ok-push w ↦ search (rules, take_more) | in_default w ↦ search rules ]
 
 pub returns : goal.returns
 returns g c = search (rules, take_all)

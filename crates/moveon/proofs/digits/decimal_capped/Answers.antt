@@ -10,9 +10,9 @@ loop-byte-preserved c =
     let xs = c.args.text.now in
     let i = c.loop-byte.byte-index in
     let more = fold_more (λ n b. 10 * n + (b - 48)) 0 xs i 0 c.loop-byte-test.true in
-    let digit = c.saturating-sub.ensures in
+    let digit = c.saturating_sub.ensures in
     c.min-number.ensures
-    ∙ one_digit_more c.loop-byte.number (decimal (take i xs)) c.saturating-sub.result c.loop-byte.invariant
+    ∙ one_digit_more c.loop-byte.number (decimal (take i xs)) c.saturating_sub.result c.loop-byte.invariant
     ∙ ap (λ d. min (10 * decimal (take i xs) + d) (2 ^ 32)) digit
     ∙ ap (λ n. min n (2 ^ 32)) (sym more)
 

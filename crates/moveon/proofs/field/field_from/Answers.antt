@@ -7,12 +7,12 @@ use Rattle.moveon.proofs.field.field_from.Goals as goal
 pub returns : goal.returns
 returns c =
     let line = c.args.line.now in
-    let start = c.field-start-start.result in
+    let start = c.field_start-start.result in
     record {
       is = search rules;
       within = search rules;
-      at-end = λ within same. ⊎_elim
-          (λ inside. absurd (omega (arith, prefix_len-drop_yes solid line start 0 inside (c.field-start-start.ensures.stops inside), c.field-end-end.ensures.is)))
-          (λ past. omega (arith, c.field-start-start.ensures.within.1 within))
+      at_end = λ within same. ⊎_elim
+          (λ inside. absurd (omega (arith, prefix_len-drop_yes solid line start 0 inside (c.field_start-start.ensures.stops inside), c.field_end-end.ensures.is)))
+          (λ past. omega (arith, c.field_start-start.ensures.within.1 within))
           (cases_lt start (length line));
     }

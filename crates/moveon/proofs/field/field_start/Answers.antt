@@ -5,12 +5,12 @@ use Rattle.moveon.proofs.field.field_start.Goals as goal
 
 pub loop-place-preserved : goal.loop-place-preserved
 loop-place-preserved c =
-    let step = prefix_len-drop_yes blank c.args.line.now c.loop-place.place 0 c.loop-place-test.true (sym c.if-is-blank.ensures) in
+    let step = prefix_len-drop_yes blank c.args.line.now c.loop-place.place 0 c.loop-place-test.true (sym c.if-is_blank.ensures) in
     (omega (arith, step, c.loop-place.invariant.0), (omega (arith, c.loop-place.invariant.1.0), λ _. omega arith))
 
-pub returns-else-is-blank : goal.returns-else-is-blank
-returns-else-is-blank c =
-    let no_blank = sym c.if-is-blank.ensures in
+pub returns-else-is_blank : goal.returns-else-is_blank
+returns-else-is_blank c =
+    let no_blank = sym c.if-is_blank.ensures in
     let stop = prefix_len-drop_no blank c.args.line.now c.loop-place.place 0 c.loop-place-test.true no_blank in
     record { is = omega (arith, stop, c.loop-place.invariant.0); within = c.loop-place.invariant.1; stops = λ _. ap not no_blank }
 

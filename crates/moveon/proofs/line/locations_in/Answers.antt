@@ -7,13 +7,13 @@ use Rattle.moveon.proofs.line.locations_in.Goals as goal
 pub loop-location-init : goal.loop-location-init
 loop-location-init c = (nothing_read _, omega arith)
 
-pub returns-in-err-byte : goal.returns-in-err-byte
-returns-in-err-byte c =
+pub returns-in_err-byte : goal.returns-in_err-byte
+returns-in_err-byte c =
     let line = c.args.line.now in
     let i = c.loop-location.location-index in
-    let told = err_from_is_err_and c.from-residual.result c.from-residual.ensures.1 in
+    let told = err_from_is_err_and c.from_residual.result c.from_residual.ensures.1 in
     record {
-      is = told.1 ∙ ap Err told.2 ∙ no_byte_more line i (take i c.loop-location.location-items) c.loop-location.place _ c.loop-location-test.true c.in-err-byte.ensures.is ∙ c.loop-location.invariant.0;
+      is = told.1 ∙ ap Err told.2 ∙ no_byte_more line i (take i c.loop-location.location-items) c.loop-location.place _ c.loop-location-test.true c.in_err-byte.ensures.is ∙ c.loop-location.invariant.0;
       within = rw told.1 tt;
     }
 
@@ -22,10 +22,10 @@ loop-location-preserved c =
     let line = c.args.line.now in
     let items = c.loop-location.location-items in
     let i = c.loop-location.location-index in
-    let byte = c.in-ok-byte.byte in
-    let end = c.in-ok-byte.end in
+    let byte = c.in_ok-byte.byte in
+    let end = c.in_ok-byte.end in
     let long : i < length items = search rules in
-    (ap (λ front. onward line (i + 1) front end) (take_more_set items i byte long) ∙ one_byte_more line i (take i items) c.loop-location.place byte end c.loop-location-test.true c.in-ok-byte.ensures.is ∙ c.loop-location.invariant.0, c.in-ok-byte.ensures.within)
+    (ap (λ front. onward line (i + 1) front end) (take_more_set items i byte long) ∙ one_byte_more line i (take i items) c.loop-location.place byte end c.loop-location-test.true c.in_ok-byte.ensures.is ∙ c.loop-location.invariant.0, c.in_ok-byte.ensures.within)
 
 pub returns : goal.returns
 returns c =

@@ -7,7 +7,7 @@ use Rattle.moveon.proofs.line.parse.Goals as goal
 pub returns : goal.returns
 returns c =
     let line = c.args.line.now in
-    let is : c.asked-by.result ≡ reading line = search rules in
+    let is : c.asked_by.result ≡ reading line = search rules in
     record {
       is = is;
       written = record {

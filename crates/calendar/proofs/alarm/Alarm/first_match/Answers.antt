@@ -1,6 +1,6 @@
 -- Day by day the silence grows, until a match is found or nothing can match any more.
 -- Assumes nothing.
-use Rattle.std.proofs.Common.{◌≡◌, ◌+◌, ◌-◌, ◌*◌, sym, ap, ◌∙◌, subst, arith}
+use Rattle.std.proofs.Common.{◌≡◌, ◌+◌, ◌*◌, sym, ap, ◌∙◌, subst, arith}
 use Rattle.std.proofs.lemmas.Bool.{false≢true}
 use Rattle.steps.specs.Iterate.{iterate}
 use Rattle.steps.proofs.Laws.{iterate_none, iterate_more}
@@ -29,7 +29,7 @@ loop-day-preserved c =
     let from = c.loop-day.from in
     let inv = c.loop-day.invariant in
     let today = ap (λ (d : Date). d.date) (sym inv.0.0) in
-    let over = day_quiet alarm t n c.loop-day.date.date from 86400 today (omega arith) c.in-default.ensures in
+    let over = day_quiet alarm t n c.loop-day.date.date from 86400 today (omega arith) c.in_default.ensures in
     let end : 86400 * n + 86400 ≡ 86400 * (n + 1) + 0 = omega arith in
     let quiet = quiet_join (matches_at alarm t) (second_of_day t + 1) (86400 * n + from) (86400 * n + 86400) inv.1.1 over in (
       (c.following-date.ensures ∙ (ap date_after inv.0.0 ∙ iterate_more date_after n t.date), omega arith),
@@ -48,10 +48,10 @@ returns-in-Some c =
     _ (ap (λ (d : Date). d.date) (sym inv.0.0)) inv.1.0 inv.1.1 found
     (omega arith)
 
-pub returns-then-not-can-match : goal.returns-then-not-can-match
-returns-then-not-can-match c =
+pub returns-then-not-can_match : goal.returns-then-not-can_match
+returns-then-not-can_match c =
     let t = time_of c.args.counters.now in
-    λ j h r. false≢true (c.if-not-can-match.ensures.all (iterate next j t, steps_exist t c.args.counters.now.exists j, r))
+    λ j h r. false≢true (c.if-not-can_match.ensures.all (iterate next j t, steps_exist t c.args.counters.now.exists j, r))
 
 pub returns : goal.returns
 returns c =

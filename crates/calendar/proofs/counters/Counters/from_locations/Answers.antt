@@ -7,19 +7,19 @@ use Rattle.calendar.proofs.counters.Counters.from_locations.Goals as goal
 
 pub returns : goal.returns
 returns c =
-    let s = c.in-ok-second.ensures in
-    let n = c.in-ok-minute.ensures in
-    let h = c.in-ok-hour.ensures in
-    let w = c.in-ok-day.ensures in
-    let d = c.in-ok-date.ensures in
-    let m = c.in-ok-month.ensures in
-    let y = c.in-ok-year.ensures in
+    let s = c.in_ok-second.ensures in
+    let n = c.in_ok-minute.ensures in
+    let h = c.in_ok-hour.ensures in
+    let w = c.in_ok-day.ensures in
+    let d = c.in_ok-date.ensures in
+    let m = c.in_ok-month.ensures in
+    let y = c.in_ok-year.ensures in
     let t : Time = record {
-      second = c.in-ok-second.second;
-      minute = c.in-ok-minute.minute;
-      hour = c.in-ok-hour.hour;
-      day = c.in-ok-day.day;
-      date = record { date = c.in-ok-date.date; month = c.in-ok-month.month; year = c.in-ok-year.year };
+      second = c.in_ok-second.second;
+      minute = c.in_ok-minute.minute;
+      hour = c.in_ok-hour.hour;
+      day = c.in_ok-day.day;
+      date = record { date = c.in_ok-date.date; month = c.in_ok-month.month; year = c.in_ok-year.year };
     } in
     record {
       is = search rules;

@@ -8,4 +8,4 @@ use Rattle.calendar.proofs.location.Location.can_hear.Goals as goal
 pub returns : goal.returns
 returns c =
     let l = c.args.self in
-    c.is-some.ensures ∙ finds_some (heard l c.args.byte) l.low (l.high + 1) c.first-heard.result c.first-heard.ensures
+    c.is_some.ensures ∙ finds_some (heard l c.args.byte) l.low (l.high + 1) c.first_heard.result c.first_heard.ensures

@@ -8,5 +8,5 @@ use Rattle.seconds.proofs.calibration.Calibration.corrected.Goals as goal
 pub returns : goal.returns
 returns c =
     let k = c.args.self in
-    let formula : c.corrected-in.result ≡ corrected k c.args.seconds = c.corrected-in.ensures ∙ ap (corrected k) (omega arith) in
+    let formula : c.corrected_in.result ≡ corrected k c.args.seconds = c.corrected_in.ensures ∙ ap (corrected k) (omega arith) in
     record { is = formula; counted = formula ∙ corrected_counted k c.args.seconds }

@@ -5,8 +5,8 @@ use Rattle.std.proofs.lemmas.Nat.{mul-le}
 use Rattle.seconds.proofs.Corrected.{corrected_over}
 use Rattle.seconds.proofs.calibration.Calibration.corrected_in.Goals as goal
 
-pub overflow-add-result : goal.overflow-add-result
-overflow-add-result c =
+pub overflow_add-result : goal.overflow_add-result
+overflow_add-result c =
     let few = mul-le c.args.cycles c.corrections.result (2 ^ 56) 62 (omega arith) (omega arith) in
     search rules
 

@@ -14,18 +14,18 @@ inside k index within placed h =
     let next : start k (suc index) ≡ start k index + units_of (length_at k (index % 3840)) = start_next k index in
     omega (arith, ap (start k) (add-one index), ap (λ (i : ℕ). units_of (length_at k i)) own)
 
-pub overflow-cast-result : goal.overflow-cast-result
-overflow-cast-result c =
+pub overflow_cast-result : goal.overflow_cast-result
+overflow_cast-result c =
     let k = c.args.self in
-    let index = c.second-at-index.result in
-    let short = inside k index c.args.within c.second-at-index.ensures.placed c.second-at-index.ensures.running in
+    let index = c.second_at-index.result in
+    let short = inside k index c.args.within c.second_at-index.ensures.placed c.second_at-index.ensures.running in
     let most = most_units (length_at k index) in
     search rules
 
 pub returns : goal.returns
 returns c =
     let k = c.args.self in
-    let index = c.second-at-index.result in
-    let short = inside k index c.args.within c.second-at-index.ensures.placed c.second-at-index.ensures.running in
-    let started = c.second-at-index.ensures.started in
-    record { cycles = search rules; placed = c.second-at-index.ensures.placed; running = omega arith; exact = omega arith }
+    let index = c.second_at-index.result in
+    let short = inside k index c.args.within c.second_at-index.ensures.placed c.second_at-index.ensures.running in
+    let started = c.second_at-index.ensures.started in
+    record { cycles = search rules; placed = c.second_at-index.ensures.placed; running = omega arith; exact = omega arith }

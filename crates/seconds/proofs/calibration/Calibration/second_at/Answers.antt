@@ -5,17 +5,17 @@ use Rattle.seconds.specs.Starts.{start}
 use Rattle.seconds.proofs.Places.{cycle_most, bit, latest_most, this_placed, this_runs, not_first, one_before, before_runs}
 use Rattle.seconds.proofs.calibration.Calibration.second_at.Goals as goal
 
-pub overflow-cast-latest : goal.overflow-cast-latest
-overflow-cast-latest c = let most = cycle_most c.args.self in search rules
+pub overflow_cast-latest : goal.overflow_cast-latest
+overflow_cast-latest c = let most = cycle_most c.args.self in search rules
 
-pub overflow-add-latest : goal.overflow-add-latest
-overflow-add-latest c = let most = cycle_most c.args.self in let one = bit c.args.self.shortens in search rules
+pub overflow_add-latest : goal.overflow_add-latest
+overflow_add-latest c = let most = cycle_most c.args.self in let one = bit c.args.self.shortens in search rules
 
 pub start-requires : goal.start-requires
 start-requires c = latest_most c.args.self c.args.within (c.args.within / 32768 + c.from.result) (omega arith) c.requires
 
-pub overflow-sub-result : goal.overflow-sub-result
-overflow-sub-result c = not_first c.args.self c.args.within (c.args.within / 32768 + c.from.result) (omega arith) c.requires (omega arith)
+pub overflow_sub-result : goal.overflow_sub-result
+overflow_sub-result c = not_first c.args.self c.args.within (c.args.within / 32768 + c.from.result) (omega arith) c.requires (omega arith)
 
 pub returns-then-start-within : goal.returns-then-start-within
 returns-then-start-within c =

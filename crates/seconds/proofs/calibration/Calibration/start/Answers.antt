@@ -8,8 +8,8 @@ at_sign : (s t : Bool) (x n c : ℕ) → s ≡ t → x + 256 * cond s c 0 ≡ 32
     → x + 256 * cond t c 0 ≡ 32768 * n + 128 * cond t 0 c
 at_sign s t x n c e h = subst (λ (b : Bool). x + 256 * cond b c 0 ≡ 32768 * n + 128 * cond b 0 c) e h
 
-pub overflow-sub-result : goal.overflow-sub-result
-overflow-sub-result c = omega (arith, at_sign _ true _ _ _ c.if-self.true (start_accounted c.args.self c.args.index))
+pub overflow_sub-result : goal.overflow_sub-result
+overflow_sub-result c = omega (arith, at_sign _ true _ _ _ c.if-self.true (start_accounted c.args.self c.args.index))
 
 pub returns-then-self : goal.returns-then-self
 returns-then-self c = omega (arith, at_sign _ true _ _ _ c.if-self.true (start_accounted c.args.self c.args.index))

@@ -4,7 +4,7 @@ use Rattle.std.proofs.Common.{◌≡◌, ℕ, ◌+◌, ◌-◌, ◌*◌, ◌<◌
 use Rattle.steps.specs.Iterate.{iterate}
 use Rattle.seconds.specs.Corrections.{corrected}
 use Rattle.seconds.specs.Laws.{Accounted, Parted, Fits32Bits, Numbered, CorrectedByFormula}
-use Rattle.seconds.specs.Lengths.{units_of, length_at}
+use Rattle.seconds.specs.Lengths.{units_of}
 use Rattle.seconds.specs.Of.{running_of}
 use Rattle.seconds.specs.Units.{Running, Run, index_after, and_one, unit, begun}
 use Rattle.seconds.specs.declared.calibration.Calibration.{Calibration}
@@ -40,13 +40,13 @@ returns-then-units-left c =
     record { runs = runs; accounted = h.accounted; parted = h.parted; fits = h.fits; corrected = h.corrected }
 
 -- the place that the code found, in terms of the first second that follows
-pub overflow-sub-seconds : goal.overflow-sub-seconds
-overflow-sub-seconds c =
+pub overflow_sub-seconds : goal.overflow_sub-seconds
+overflow_sub-seconds c =
     let p = c.place-place.ensures in
     past c.args.calibration (index_after c.args.self.now.index) _ _ _ _ (omega arith) p.placed p.running p.exact
 
-pub overflow-sub-corrected : goal.overflow-sub-corrected
-overflow-sub-corrected c =
+pub overflow_sub-corrected : goal.overflow_sub-corrected
+overflow_sub-corrected c =
     let p = c.place-place.ensures in
     let h = corrected_past c.args.calibration (index_after c.args.self.now.index) _ _ _ _ (omega arith) p.placed p.running p.exact in
     omega arith
@@ -59,11 +59,11 @@ fits_64 : (s : Bool) (m : ℕ) → m < 9223372036854775808 → (cond s m 0 < 922
 fits_64 true m h = (h, omega arith)
 fits_64 false m h = (omega arith, h)
 
-pub and-one-requires : goal.and-one-requires
-and-one-requires c =
+pub and_one-requires : goal.and_one-requires
+and_one-requires c =
     let p = c.place-place.ensures in
     let few = corrected_within c.args.calibration (c.place-place.result.cycles * 3840 + c.place-place.result.index) in
-    let both = fits_64 c.args.calibration.shortens (c.corrected-in.result - c.corrected_before.result) (omega arith) in
+    let both = fits_64 c.args.calibration.shortens (c.corrected_in.result - c.corrected_before.result) (omega arith) in
     let seconds = ap (λ (n : Counts). n.seconds) c.of.ensures in
     let shortened = ap (λ (n : Counts). n.shortened) c.of.ensures in
     let lengthened = ap (λ (n : Counts). n.lengthened) c.of.ensures in
@@ -77,9 +77,9 @@ returns c =
     let w = c.args.self.now.within in
     let gone : ℕ = c.place-place.result.gone in
     let index : ℕ = c.place-place.result.index in
-    let length = c.length-at.ensures in
-    let many : c.corrected-in.result - c.corrected_before.result ≡ _ = λ i. c.corrected-in.ensures i - c.corrected_before.ensures i in
-    let counts : c.and-one.result ≡ _ = c.and-one.ensures ∙ ap (and_one before.length) (c.of.ensures ∙ ap (sided k _) many) in
+    let length = c.length_at.ensures in
+    let many : c.corrected_in.result - c.corrected_before.result ≡ _ = λ i. c.corrected_in.ensures i - c.corrected_before.ensures i in
+    let counts : c.and_one.result ≡ _ = c.and_one.ensures ∙ ap (and_one before.length) (c.of.ensures ∙ ap (sided k _) many) in
     let code : ◌≡◌ {A = Run} _ _ = λ i. record { running = record { gone = gone; index = index; length = length i }; counts = counts i } in
     let leads =
     leads_on k before c.args.units (c.units.result - before.gone) c.place-place.result.cycles index gone
