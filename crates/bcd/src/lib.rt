@@ -1,3 +1,3 @@
-//! Two decimal digits in a byte: a definition and its laws, which the calendar and the hundredths share.
+//! Two decimal digits in a byte: a definition and its laws, as the hundredths show them.
 
 #![tactic(auto)]

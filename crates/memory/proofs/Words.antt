@@ -21,18 +21,18 @@ one_word_on k j = omega arith
 
 -- the byte j of the word k
 unpacked_at : (ws : List ℕ) (k j : ℕ) → k < length ws → j < 4 → get_or (unpacked ws) (4 * k + j) 0 ≡ get_or (word_bytes (get_or ws k 0)) j 0
-unpacked_at [] k j in_list in-word = absurd (omega arith)
-unpacked_at (w ∷ ws) zero j in_list in-word = rw zero-add (get_or_append_left (word_bytes w) (unpacked ws) 0 j in-word)
-unpacked_at (w ∷ ws) (suc k) j in_list in-word = rw one_word_on (unpacked_at ws k j (omega arith) in-word)
+unpacked_at [] k j in_list in_word = absurd (omega arith)
+unpacked_at (w ∷ ws) zero j in_list in_word = rw zero-add (get_or_append_left (word_bytes w) (unpacked ws) 0 j in_word)
+unpacked_at (w ∷ ws) (suc k) j in_list in_word = rw one_word_on (unpacked_at ws k j (omega arith) in_word)
 
 -- where the byte j of the word k is replaced in its word, it is replaced among the bytes
 unpacked-set : (ws : List ℕ) (k j v b : ℕ) → k < length ws → j < 4 → word_bytes v ≡ set (word_bytes (get_or ws k 0)) j b
     → unpacked (set ws k v) ≡ set (unpacked ws) (4 * k + j) b
-unpacked-set [] k j v b in_list in-word e = absurd (omega arith)
-unpacked-set (w ∷ ws) zero j v b in_list in-word e =
-    rw zero-add (ap (λ bs. bs ++ unpacked ws) e ∙ sym (set-append_left (word_bytes w) (unpacked ws) j b in-word))
-unpacked-set (w ∷ ws) (suc k) j v b in_list in-word e =
-    rw one_word_on (ap (λ bs. word_bytes w ++ bs) (unpacked-set ws k j v b (omega arith) in-word e))
+unpacked-set [] k j v b in_list in_word e = absurd (omega arith)
+unpacked-set (w ∷ ws) zero j v b in_list in_word e =
+    rw zero-add (ap (λ bs. bs ++ unpacked ws) e ∙ sym (set-append_left (word_bytes w) (unpacked ws) j b in_word))
+unpacked-set (w ∷ ws) (suc k) j v b in_list in_word e =
+    rw one_word_on (ap (λ bs. word_bytes w ++ bs) (unpacked-set ws k j v b (omega arith) in_word e))
 
 word_of-bytes : (a b c d : ℕ) → a < 256 → b < 256 → c < 256 → d < 256 → word_bytes (word_of a b c d) ≡ a ∷ b ∷ c ∷ d ∷ []
 word_of-bytes a b c d ha hb hc hd =

@@ -38,16 +38,16 @@ field_ends (b ∷ bytes) = ends_more b bytes (field_ends bytes) (solid b) refl
 
 -- bytes with no run of solid ones behind the blanks are blank
 blanks_more : (b : ℕ) (bytes : List ℕ) → (prefix_len solid (drop (prefix_len blank bytes) bytes) ≡ 0 → Blanks bytes) → (t : Bool) → blank b ≡ t → prefix_len solid (drop (cond t (1 + prefix_len blank bytes) 0) (b ∷ bytes)) ≡ 0 → Blanks (b ∷ bytes)
-blanks_more b bytes others true e none-solid =
+blanks_more b bytes others true e none_solid =
     let one : 1 + prefix_len blank bytes ≡ suc (prefix_len blank bytes) = omega arith in
-    (e, others (subst (λ n. prefix_len solid (drop n (b ∷ bytes)) ≡ 0) one none-solid))
-blanks_more b bytes others false e none-solid =
+    (e, others (subst (λ n. prefix_len solid (drop n (b ∷ bytes)) ≡ 0) one none_solid))
+blanks_more b bytes others false e none_solid =
     let some : prefix_len solid (b ∷ bytes) ≡ 1 + prefix_len solid bytes = rw e refl in
     absurd (omega arith)
 
 all_blanks : (bytes : List ℕ) → prefix_len solid (drop (prefix_len blank bytes) bytes) ≡ 0 → Blanks bytes
-all_blanks [] none-solid = tt
-all_blanks (b ∷ bytes) none-solid = blanks_more b bytes (all_blanks bytes) (blank b) refl none-solid
+all_blanks [] none_solid = tt
+all_blanks (b ∷ bytes) none_solid = blanks_more b bytes (all_blanks bytes) (blank b) refl none_solid
 
 -- a field that is not empty opens the line at its place
 opens : (line : List ℕ) (from : ℕ) → none (field_from line from) ≡ false → Opens (drop from line) (text_of line (field_from line from)) (drop (field_from line from).end line)

@@ -1,4 +1,4 @@
--- The code computes `date-at` as it is defined.
+-- The code computes `date_at` as it is defined.
 -- Assumes nothing.
 use Rattle.std.proofs.Common.{rules}
 use Rattle.dates.specs.Numbering.{date_at}
