@@ -5,11 +5,13 @@
 mod timing;
 mod wait;
 
+use outcome::exit_code;
 use seconds::counts::Counts;
-use std::alloc::AllocFailed;
+use std::alloc::AllocError;
 use std::env::Args;
 use std::process::ExitCode;
-use std::{env, fmt, io};
+use std::{env, io};
+use thiserror::Error;
 use timing::time_waits;
 use wait::{Waited, wait};
 
@@ -33,53 +35,29 @@ prints how long waits of three lengths take to compute.
 ";
 
 /// Why the program ends with status 1.
-#[derive(Drop)]
+#[derive(Debug, Drop, Error)]
 enum Failure {
+    #[error("the number of units is missing; try --help")]
     MissingUnits,
+    #[error("a control byte is missing; try --help")]
     MissingControl,
+    #[error("{0} is no number of units from 0 to {max}", max = u64::MAX)]
     NotUnits(String),
+    #[error("{0} is no byte in hex digits")]
     NotControl(String),
-    Io(io::Error),
-}
-
-impl fmt::Display for Failure {
-    fn fmt<W: fmt::Write>(&self, f: &mut fmt::Formatter<W>) -> fmt::Result {
-        match self {
-            Failure::MissingUnits => write!(f, "the number of units is missing; try --help"),
-            Failure::MissingControl => write!(f, "a control byte is missing; try --help"),
-            Failure::NotUnits(text) => {
-                write!(
-                    f,
-                    "{text} is no number of units from 0 to 18446744073709551615"
-                )
-            }
-            Failure::NotControl(text) => write!(f, "{text} is no byte in hex digits"),
-            Failure::Io(error) => write!(f, "{error}"),
-        }
-    }
-}
-
-impl From<io::Error> for Failure {
-    fn from(error: io::Error) -> Failure {
-        Failure::Io(error)
-    }
-}
-
-impl From<AllocFailed<u8>> for Failure {
-    fn from(refused: AllocFailed<u8>) -> Failure {
-        Failure::Io(io::Error::from(refused))
-    }
+    #[error("out of memory")]
+    Memory(#[from(alloc)] AllocError),
+    #[error(transparent)]
+    Io(#[from] io::Error),
 }
 
 /// The control bytes among the arguments that are left.
 fn controls_in(rt: &HostRuntime, args: Args) -> Result<Vec<u8>, Failure> {
-    let mut controls = Vec::new(rt.alloc());
-    for text in args {
-        match u8::from_str_radix(text.as_str(), 16) {
-            Ok(control) => controls.push(control)?,
-            Err(_) => return Err(Failure::NotControl(text)),
-        }
-    }
+    let controls: Vec<u8> = args
+        .map(|text| {
+            u8::from_str_radix(text.as_str(), 16).map_err(|_| Failure::NotControl(text))
+        })
+        .try_collect(rt.alloc())?;
     if controls.is_empty() {
         return Err(Failure::MissingControl);
     }
@@ -92,8 +70,8 @@ fn show(rt: &HostRuntime, units: u64, controls: &[u8]) -> io::Result<()> {
         "control {:>16} {:>15} {:>15} {:>10}",
         "seconds", "shortened", "lengthened", "remainder"
     )?;
-    for control in controls {
-        let Waited { counts, remainder } = wait(*control, units);
+    for &control in controls {
+        let Waited { counts, remainder } = wait(control, units);
         let Counts {
             seconds,
             shortened,
@@ -108,30 +86,21 @@ fn show(rt: &HostRuntime, units: u64, controls: &[u8]) -> io::Result<()> {
 
 fn run(rt: &HostRuntime) -> Result<(), Failure> {
     let mut args = env::args(rt)?;
-    let _ = args.next();
-    let Some(first) = args.next() else {
-        return Err(Failure::MissingUnits);
-    };
+    let first = args.nth(1).ok_or(Failure::MissingUnits)?;
     match first.as_str() {
         "--help" | "-h" => rt.print(HELP)?,
         "--time" => time_waits(rt)?,
-        _ => match first.parse::<u64>() {
-            Ok(units) => {
-                let controls = controls_in(rt, args)?;
-                show(rt, units, controls.as_slice())?;
-            }
-            Err(_) => return Err(Failure::NotUnits(first)),
-        },
+        text => {
+            let Ok(units) = text.parse() else {
+                return Err(Failure::NotUnits(first));
+            };
+            let controls = controls_in(rt, args)?;
+            show(rt, units, controls.as_slice())?;
+        }
     }
     Ok(())
 }
 
 fn main(rt: HostRuntime) -> ExitCode {
-    match run(&rt) {
-        Ok(()) => ExitCode::SUCCESS,
-        Err(failure) => {
-            let _ = eprintln!(rt; "bench_seconds: {failure}");
-            ExitCode::FAILURE
-        }
-    }
+    exit_code(&rt, "bench_seconds", run(&rt))
 }

@@ -18,7 +18,7 @@ pub(crate) fn time_waits(rt: &HostRuntime) -> io::Result<()> {
             let counts = divider.advance(calibration, units);
             seconds = seconds.wrapping_add(counts.seconds);
         }
-        let tenths = start.elapsed(rt)?.as_nanos() / (WAITS / 10) as u128;
+        let tenths = start.elapsed(rt)?.as_nanos() / u128::from(WAITS / 10);
         let (whole, tenth) = (tenths / 10, tenths % 10);
         println!(rt;
             "{units:>14} units: {whole}.{tenth} ns a wait ({WAITS} waits, {seconds} s counted)"

@@ -7,7 +7,7 @@ use seconds::counts::Counts;
 use seconds::divider::Divider;
 
 /// The seconds that ended, and the units gone of the running one.
-#[derive(Clone, Copy)]
+#[derive(Clone, Copy, PartialEq, Eq, Debug)]
 pub struct Waited {
     pub counts: Counts,
     pub remainder: u16,

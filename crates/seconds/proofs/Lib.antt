@@ -1,4 +1,3 @@
-pub mod Sums
 pub mod Corrected
 pub mod Starts
 pub mod Places

@@ -1,14 +1,12 @@
 -- When seconds begin: by their number alone, whichever of them are corrected.
 -- Assumes nothing.
-use Rattle.std.proofs.Common.{◌≡◌, ℕ, zero, suc, ◌+◌, ◌*◌, ◌%◌, ◌<◌, ◌≤◌, Bool, true, false, cond, ◌⊎◌, refl, inl, inr, arith}
-use Rattle.std.proofs.lemmas.Bool.{cases_order}
-use Rattle.seconds.specs.Corrections.{corrects, corrected, one_if}
-use Rattle.seconds.specs.Lengths.{units_of, length_at}
-use Rattle.seconds.specs.Starts.{start}
+use Rattle.std.proofs.Common.{◌≡◌, ℕ, zero, suc, ◌+◌, ◌-◌, ◌*◌, ◌%◌, ◌<◌, ◌≤◌, cond, refl, ap, suc-mul, arith}
+use Rattle.seconds.specs.Corrections.{corrected}
+use Rattle.seconds.specs.Lengths.{units_of, correction, length_at}
+use Rattle.seconds.specs.Starts.{RunsAt, start}
+use Rattle.seconds.specs.Units.{Running, starting, further}
 use Rattle.seconds.specs.declared.calibration.Calibration.{Calibration}
-use Rattle.seconds.specs.declared.length.Length.TheVariants.{Shortened, Plain, Lengthened}
-use Rattle.seconds.proofs.Corrected.{corrected_none, corrected_next, corrected_cycle}
-use Rattle.seconds.proofs.Sums.{grows, over_cycles}
+use Rattle.seconds.proofs.Corrected.{corrected_none, corrected_next, corrected_within, corrected_cycle}
 
 pub start_none : (k : Calibration) → start k 0 ≡ 0
 unfolding start
@@ -19,56 +17,48 @@ unfolding start
 start_next k n = refl
 
 pub start_grows : (k : Calibration) (i j : ℕ) → i ≤ j → start k i ≤ start k j
-start_grows k = grows (start k) (λ n. units_of (length_at k (n % 3840))) (start_next k)
-
--- a corrected second against a plain one
-by_sign : (c s : Bool) → units_of (cond c (cond s Shortened Lengthened) Plain) + 256 * cond s (one_if c) 0 ≡ 32768 + 128 * cond s 0 (one_if c)
-by_sign true true = refl
-by_sign true false = refl
-by_sign false true = refl
-by_sign false false = refl
-
--- what is counted on one side
-no_more : (s : Bool) (c : ℕ) → c ≡ 0 → (cond s c 0 ≡ 0) × (cond s 0 c ≡ 0)
-no_more true c e = (e, refl)
-no_more false c e = (refl, e)
-
-pub some_more : (s : Bool) (b c d : ℕ) → b ≡ c + d → (cond s b 0 ≡ cond s c 0 + cond s d 0) × (cond s 0 b ≡ cond s 0 c + cond s 0 d)
-some_more true b c d e = (e, refl)
-some_more false b c d e = (refl, e)
+start_grows k i zero h = grind arith
+start_grows k i (suc j) h = grind (arith, start_next k j, start_grows k i j)
 
 -- The account of the units up to the start of second n.
 pub start_accounted : (k : Calibration) (n : ℕ)
     → start k n + 256 * cond k.shortens (corrected k n) 0 ≡ 32768 * n + 128 * cond k.shortens 0 (corrected k n)
-start_accounted k zero = omega (arith, start_none k, no_more k.shortens (corrected k 0) (corrected_none k))
-start_accounted k (suc n) =
-    omega (
-      arith,
-      start_accounted k n,
-      start_next k n,
-      by_sign (corrects k (n % 3840)) k.shortens,
-      some_more k.shortens (corrected k (suc n)) (corrected k n) (one_if (corrects k (n % 3840))) (corrected_next k n),
-    )
+start_accounted k zero = grind (arith, start_none k, corrected_none k)
+start_accounted k (suc n) = grind (arith, start_accounted k n, start_next k n, corrected_next k n)
 
-pub start_cycle : (k : Calibration) (n : ℕ) → start k (n + 3840) ≡ start k n + start k 3840
-start_cycle k n =
-    omega (
-      arith,
-      start_accounted k n,
-      start_accounted k 3840,
-      start_accounted k (n + 3840),
-      some_more k.shortens (corrected k (n + 3840)) (corrected k n) (corrected k 3840) (corrected_cycle k n),
-    )
+-- The code's way: plain seconds, and corrected ones.
+pub start_by_length : (k : Calibration) (n : ℕ) → start k n ≡ (n - corrected k n) * 32768 + corrected k n * units_of (correction k)
+start_by_length k n = grind (arith, start_accounted k n, corrected_within k n)
+
+start_cycle : (k : Calibration) (n : ℕ) → start k (n + 3840) ≡ start k n + start k 3840
+start_cycle k n = grind (arith, start_accounted k n, start_accounted k 3840, start_accounted k (n + 3840), corrected_cycle k n)
 
 pub start_over : (k : Calibration) (cycles index : ℕ) → start k (cycles * 3840 + index) ≡ cycles * start k 3840 + start k index
-start_over k = over_cycles (start k) (start_cycle k)
+start_over k zero index = grind arith
+start_over k (suc cycles) index =
+    grind (arith, start_cycle k (cycles * 3840 + index), start_over k cycles index, suc-mul cycles (start k 3840))
 
--- Two moments that are one are in one second, as far into it.
-pub same_second : (k : Calibration) (i g j h : ℕ) → g < units_of (length_at k (i % 3840)) → h < units_of (length_at k (j % 3840))
-    → start k i + g ≡ start k j + h → i ≡ j
-same_second k i g j h within within' e = by (cases_order i j)
-  where
-    by : (i ≡ j) ⊎ ((i < j) ⊎ (j < i)) → i ≡ j
-    by (inl same) = same
-    by (inr (inl before)) = absurd (omega (arith, start_next k i, start_grows k (suc i) j before))
-    by (inr (inr after)) = absurd (omega (arith, start_next k j, start_grows k (suc j) i after))
+-- At one moment one second runs, and as much of it is gone.
+module _ (k : Calibration) (units i j : ℕ) (r s : Running) (one : RunsAt k units i r) (other : RunsAt k units j s) where
+  pub same_number : i ≡ j
+  same_number =
+      grind (
+        arith,
+        ap units_of one.numbered.length,
+        ap units_of other.numbered.length,
+        start_next k i,
+        start_next k j,
+        start_grows k (suc i) j,
+        start_grows k (suc j) i,
+      )
+
+  pub same_running : r ≡ s
+  same_running =
+      let same : i ≡ j = same_number in
+      let gone : r.gone ≡ s.gone = omega (arith, ap (start k) same) in
+      grind (arith, one.numbered.index, other.numbered.index, one.numbered.length, other.numbered.length)
+
+-- so many units into second n
+pub runs_into : (k : Calibration) (units n gone : ℕ) → gone < units_of (length_at k (n % 3840)) → start k n + gone ≡ units
+    → RunsAt k units n (further gone (starting k (n % 3840)))
+runs_into k units n gone within e = record { numbered = record { index = refl; length = refl }; within = omega arith; exact = omega arith }

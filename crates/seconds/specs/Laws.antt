@@ -1,6 +1,6 @@
 -- What holds of every run of units, in terms of seconds.
 -- Assumes nothing.
-use Rattle.std.specs.Prelude.{◌≡◌, ℕ, ◌+◌, ◌*◌, ◌%◌, ◌^◌, ◌<◌, ◌≤◌, cond}
+use Rattle.std.specs.Prelude.{◌≡◌, ℕ, ◌+◌, ◌*◌, ◌%◌, ◌^◌, ◌<◌, ◌≤◌, if◌then◌else◌}
 use Rattle.seconds.specs.Corrections.{corrected}
 use Rattle.seconds.specs.Lengths.{length_at}
 use Rattle.seconds.specs.Units.{Running, Run}
@@ -31,5 +31,5 @@ pub record Numbered (k : Calibration) (n : ℕ) (r : Running) : Type 0 where
 -- the first so many says, all of them the way of its sign, and the numbering goes on.
 pub record CorrectedByFormula (k : Calibration) (n : ℕ) (after : Run) : Type 0 where
   pub formula : corrected k n + (after.counts.shortened + after.counts.lengthened) ≡ corrected k (n + after.counts.seconds)
-  pub sign : cond k.shortens after.counts.lengthened after.counts.shortened ≡ 0
+  pub sign : (if k.shortens then after.counts.lengthened else after.counts.shortened) ≡ 0
   pub numbered : Numbered k (n + after.counts.seconds) after.running

@@ -1,6 +1,6 @@
 -- How many units a second has.
 -- Assumes nothing.
-use Rattle.std.specs.Prelude.{ℕ, cond}
+use Rattle.std.specs.Prelude.{ℕ, if◌then◌else◌}
 use Rattle.seconds.specs.Corrections.{corrects}
 use Rattle.seconds.specs.declared.calibration.Calibration.{Calibration}
 use Rattle.seconds.specs.declared.length.Length.{Length}
@@ -13,8 +13,8 @@ units_of Lengthened = 32896
 
 -- the length of a corrected second
 abbrev pub correction : Calibration → Length
-correction k = cond k.shortens Shortened Lengthened
+correction k = if k.shortens then Shortened else Lengthened
 
 -- the length of the second at an index of the cycle, by the calibration in force as it begins
 abbrev pub length_at : Calibration → ℕ → Length
-length_at k index = cond (corrects k index) (correction k) Plain
+length_at k index = if corrects k index then correction k else Plain

@@ -1,6 +1,6 @@
 -- What one unit does to the running second and to the counts.
 -- Assumes nothing.
-use Rattle.std.specs.Prelude.{ℕ, ◌+◌, ◌%◌, Bool, cond, ◌==◌}
+use Rattle.std.specs.Prelude.{ℕ, ◌+◌, ◌%◌, Bool, if◌then◌else◌, ◌==◌}
 use Rattle.steps.specs.Iterate.{iterate}
 use Rattle.seconds.specs.Lengths.{units_of, length_at}
 use Rattle.seconds.specs.declared.calibration.Calibration.{Calibration}
@@ -38,6 +38,15 @@ ends r = r.gone + 1 == units_of r.length
 abbrev pub none : Counts
 none = record { seconds = 0; shortened = 0; lengthened = 0 }
 
+-- so many seconds of one calibration, of which so many are corrected, all of them the way of its sign
+abbrev pub counts_of : Calibration → ℕ → ℕ → Counts
+counts_of k seconds corrected =
+    record {
+      seconds = seconds;
+      shortened = if k.shortens then corrected else 0;
+      lengthened = if k.shortens then 0 else corrected;
+    }
+
 abbrev pub if_shortened : Length → ℕ
 if_shortened Shortened = 1
 if_shortened Plain = 0
@@ -62,7 +71,7 @@ goes_on n r = record { running = further n r.running; counts = r.counts }
 
 -- One unit, under the calibration in force.
 unfoldable pub unit : Calibration → Run → Run
-unit k r = cond (ends r.running) (next_second k r) (goes_on 1 r)
+unit k r = if ends r.running then next_second k r else goes_on 1 r
 
 -- Nothing has ended yet.
 abbrev pub begun : Running → Run

@@ -1,6 +1,6 @@
 //! Which seconds a calibration corrects, and how many: the one file that knows the rule.
 
-ghost use Rattle.std.specs.Prelude.{◌≡◌, ◌+◌, ◌*◌, ◌^◌, ◌<◌, ◌≤◌};
+ghost use Rattle.std.specs.Prelude.{◌≡◌, ◌*◌, ◌≤◌};
 ghost use Rattle.seconds.specs.Corrections.{corrects, corrected, counted};
 
 use crate::calibration::Calibration;
@@ -14,14 +14,14 @@ impl Calibration {
     fn corrections(self) -> u16
         ensures { result ≡ 2 * self.magnitude }
     {
-        2 * self.magnitude as u16
+        2 * u16::from(self.magnitude)
     }
 
     /// Whether the second at this index of the cycle is corrected.
     pub(crate) fn corrects(self, index: u16) -> bool
         ensures { result ≡ corrects self index }
     {
-        index % MINUTE == 0 && index / MINUTE < self.corrections()
+        index.is_multiple_of(MINUTE) && index / MINUTE < self.corrections()
     }
 
     /// How many of a cycle's seconds before this index are corrected.
@@ -32,22 +32,13 @@ impl Calibration {
         self.corrections().min((index + MINUTE - 1) / MINUTE)
     }
 
-    /// How many seconds are corrected of so many whole cycles and the seconds before this index.
-    pub(crate) fn corrected_in(self, cycles: u64, index: u16) -> u64
-        requires cycles { cycles < 2 ^ 56 }
-        requires index { index < 3840 }
-        ensures { result ≡ corrected self (cycles * 3840 + index) }
-    {
-        cycles * self.corrections() as u64 + self.corrected_before(index) as u64
-    }
-
     /// How many of the first so many seconds after a new cycle are corrected, while the calibration stays as it is.
     pub fn corrected(self, seconds: u64) -> u64
         ensures is { result ≡ corrected self seconds }
         ensures counted { result ≡ counted self seconds }
     {
-        let cycles = seconds / CYCLE as u64;
-        let index = seconds % CYCLE as u64;
-        self.corrected_in(cycles, index as u16)
+        let cycles = seconds / u64::from(CYCLE);
+        let index = (seconds % u64::from(CYCLE)) as u16;
+        cycles * u64::from(self.corrections()) + u64::from(self.corrected_before(index))
     }
 }

@@ -1,13 +1,13 @@
 //! The seconds that ended.
 
-ghost use Rattle.std.specs.Prelude.{◌≡◌, ◌^◌, ◌<◌, if◌then◌else◌};
-ghost use Rattle.seconds.specs.Units.{and_one};
+ghost use Rattle.std.specs.Prelude.{◌≡◌, ◌^◌, ◌<◌};
+ghost use Rattle.seconds.specs.Units.{and_one, counts_of};
 
 use crate::calibration::Calibration;
 use crate::length::Length;
 
 /// How many seconds ended, and how many of them were shortened and lengthened.
-#[derive(Clone, Copy, PartialEq, Eq, Debug)]
+#[derive(Clone, Copy, PartialEq, Eq, Hash, Debug)]
 pub struct Counts {
     pub seconds: u64,
     pub shortened: u64,
@@ -23,26 +23,25 @@ impl Counts {
 
     /// So many seconds of one calibration, of which so many are corrected.
     pub(crate) fn of(calibration: Calibration, seconds: u64, corrected: u64) -> Counts
-        ensures { result ≡ record { seconds = seconds; shortened = (if calibration.shortens then corrected else 0); lengthened = (if calibration.shortens then 0 else corrected) } }
+        ensures { result ≡ counts_of calibration seconds corrected }
     {
-        if calibration.shortens {
-            Counts {
-                seconds,
-                shortened: corrected,
-                lengthened: 0,
-            }
+        let (shortened, lengthened) = if calibration.shortens {
+            (corrected, 0)
         } else {
-            Counts {
-                seconds,
-                shortened: 0,
-                lengthened: corrected,
-            }
+            (0, corrected)
+        };
+        Counts {
+            seconds,
+            shortened,
+            lengthened,
         }
     }
 
     /// One second more, of this length.
     pub(crate) fn and_one(self, length: Length) -> Counts
-        requires { (self.seconds < 2 ^ 63) × ((self.shortened < 2 ^ 63) × (self.lengthened < 2 ^ 63)) }
+        requires seconds { self.seconds < 2 ^ 63 }
+        requires shortened { self.shortened < 2 ^ 63 }
+        requires lengthened { self.lengthened < 2 ^ 63 }
         ensures { result ≡ and_one length self }
     {
         Counts {

@@ -4,7 +4,7 @@ ghost use Rattle.seconds.specs.Lengths.{units_of};
 ghost use Rattle.std.specs.Prelude.{◌≡◌};
 
 /// The length of a second, fixed when it begins.
-#[derive(Clone, Copy, PartialEq, Eq, Debug)]
+#[derive(Clone, Copy, PartialEq, Eq, Hash, Debug)]
 pub enum Length {
     Shortened,
     Plain,

@@ -3,13 +3,10 @@
 
 #![tactic(auto)]
 
-mod advance;
 pub mod calibration;
-mod control;
 mod corrections;
 pub mod counts;
 mod cycle;
 pub mod divider;
-mod hundredths;
 pub mod length;
 pub mod specimens;

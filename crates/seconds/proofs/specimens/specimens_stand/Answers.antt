@@ -11,26 +11,26 @@ use Rattle.seconds.specs.Units.{Run, none}
 use Rattle.seconds.specs.declared.calibration.Calibration.{Calibration}
 use Rattle.seconds.specs.declared.counts.Counts.{Counts}
 use Rattle.seconds.specs.declared.length.Length.TheVariants.{Plain}
-use Rattle.seconds.proofs.Reaches.{some_units, leads}
-use Rattle.seconds.proofs.Starts.{start_none, start_accounted}
+use Rattle.seconds.proofs.Reaches.{leads}
+use Rattle.seconds.proofs.Starts.{start_none, start_accounted, runs_into}
 use Rattle.seconds.proofs.specimens.specimens_stand.Goals as goal
 
 shortened_second : ShortenedSecond
 unfolding corrects corrected start
 shortened_second =
     let k = calibration_in 33 in (
-      ap (λ (r : Run). r.counts) (leads k 0 32511 0 0 32511 (omega arith) (omega arith) (omega arith) refl none),
-      ap (λ (r : Run). r.counts) (leads k 0 32512 0 1 0 (omega arith) (omega arith) (omega arith) refl none),
+      ap (λ (r : Run). r.counts) (leads k 0 32511 0 _ (runs_into k _ 0 32511 (omega arith) refl) none),
+      ap (λ (r : Run). r.counts) (leads k 0 32512 1 _ (runs_into k _ 1 0 (omega arith) refl) none),
     )
 
 lengthened_second : LengthenedSecond
 unfolding corrects corrected start
 lengthened_second =
     let k = calibration_in 1 in
-    let last = leads k 0 32895 0 0 32895 (omega arith) (omega arith) (omega arith) refl none in (
+    let last = leads k 0 32895 0 _ (runs_into k _ 0 32895 (omega arith) refl) none in (
       ap (λ (r : Run). r.counts) last,
       ap (λ (r : Run). hundredths r.running.gone) last,
-      ap (λ (r : Run). r.counts) (leads k 0 32896 0 1 0 (omega arith) (omega arith) (omega arith) refl none),
+      ap (λ (r : Run). r.counts) (leads k 0 32896 1 _ (runs_into k _ 1 0 (omega arith) refl) none),
     )
 
 -- the counts after n seconds of a new cycle
@@ -44,8 +44,8 @@ cycle_takes : (control units : ℕ) → length_at (calibration_in control) 3839 
 cycle_takes control units plain last all =
     let k = calibration_in control in (
       ap (λ (r : Run). r.counts)
-          (leads k 0 (units - 1) 0 3839 32767 (omega arith) (omega arith) (omega (arith, ap units_of plain)) (omega (arith, start_none k)) none),
-      leads k 0 units 1 0 0 (omega arith) (omega arith) (some_units (length_at k 0)) (omega arith) none,
+          (leads k 0 (units - 1) 3839 _ (runs_into k _ 3839 32767 (omega (arith, ap units_of plain)) (omega (arith, start_none k))) none),
+      leads k 0 units 3840 _ (runs_into k _ 3840 0 (grind arith) (omega (arith, start_none k))) none,
     )
 
 shortest_cycle : ShortestCycle

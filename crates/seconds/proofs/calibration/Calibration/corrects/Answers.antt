@@ -5,10 +5,10 @@ use Rattle.std.proofs.lemmas.Bool.Decides.{nat_tests}
 use Rattle.seconds.specs.Corrections.{corrects}
 use Rattle.seconds.proofs.calibration.Calibration.corrects.Goals as goal
 
-pub returns-then-index-eq0 : goal.returns-then-index-eq0
+pub returns-then-is_multiple_of : goal.returns-then-is_multiple_of
 unfolding corrects
-returns-then-index-eq0 c = grind (arith, nat_tests)
+returns-then-is_multiple_of c = grind (arith, nat_tests)
 
-pub returns-else-index-eq0 : goal.returns-else-index-eq0
+pub returns-else-is_multiple_of : goal.returns-else-is_multiple_of
 unfolding corrects
-returns-else-index-eq0 c = grind (arith, nat_tests)
+returns-else-is_multiple_of c = grind (arith, nat_tests)

@@ -1,6 +1,6 @@
 -- Masks read the bits that division and remainder name.
 -- Assumes nothing.
-use Rattle.std.proofs.Common.{◌≡◌, ℕ, ◌*◌, ◌/◌, ◌%◌, ◌<◌, Bool, not, eqb, ap, ◌∙◌, subst, arith}
+use Rattle.std.proofs.Common.{◌≡◌, ℕ, ◌<◌, Bool, ap, ◌∙◌, subst, arith}
 use native.Mathlib.Bridge.{le_prop}
 use lib.Bits.{and_mask, and_high}
 use Rattle.std.proofs.lemmas.Bool.Decides.{nat_tests}
@@ -15,10 +15,7 @@ same s t m n p q e f =
     (λ r. ap (λ (b : Bool). record { shortens = b; magnitude = m; small = p }) e ∙ ap (λ (l : m < 32). record { shortens = t; magnitude = m; small = l }) (le_prop p r))
     q
 
-bit_5 : (bit : ℕ) → bit < 2 → not (eqb (bit * 32) 0) ≡ eqb bit 1
-bit_5 bit h = grind (arith, nat_tests)
-
 pub returns : goal.returns
 returns c =
     let control = c.args.control in
-    same _ _ _ _ _ _ (ap (λ (n : ℕ). not (eqb n 0)) (and_high control 1 5) ∙ bit_5 (control / 32 % 2) (omega arith)) (and_mask control 5)
+    same _ _ _ _ _ _ (grind (arith, nat_tests, and_high control 1 5)) (and_mask control 5)

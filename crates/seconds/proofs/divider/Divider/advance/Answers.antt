@@ -1,17 +1,18 @@
 -- The units left of the running second, and those of the seconds that follow. All else follows from what the units lead to.
 -- Assumes nothing.
-use Rattle.std.proofs.Common.{◌≡◌, ℕ, ◌+◌, ◌-◌, ◌*◌, ◌<◌, Bool, true, false, cond, sym, ap, ◌∙◌, subst, arith}
+use Rattle.std.proofs.Common.{◌≡◌, ℕ, ◌+◌, ◌-◌, ◌^◌, ◌<◌, ◌≤◌, sym, ap, ◌∙◌, subst, arith}
 use Rattle.steps.specs.Iterate.{iterate}
 use Rattle.seconds.specs.Corrections.{corrected}
 use Rattle.seconds.specs.Laws.{Accounted, Parted, Fits32Bits, Numbered, CorrectedByFormula}
 use Rattle.seconds.specs.Lengths.{units_of}
-use Rattle.seconds.specs.Of.{running_of}
-use Rattle.seconds.specs.Units.{Running, Run, index_after, and_one, unit, begun}
+use Rattle.seconds.specs.Of.{running_of, run_of}
+use Rattle.seconds.specs.Units.{Running, Run, and_one, counts_of, unit, begun}
 use Rattle.seconds.specs.declared.calibration.Calibration.{Calibration}
 use Rattle.seconds.specs.declared.counts.Counts.{Counts}
 use Rattle.seconds.proofs.Accounts.{accounted, parted, fits}
-use Rattle.seconds.proofs.Corrected.{corrected_within}
-use Rattle.seconds.proofs.Reaches.{goes, by_formula, past, corrected_past, leads_on}
+use Rattle.seconds.proofs.Corrected.{corrected_grows, corrected_apart}
+use Rattle.seconds.proofs.Reaches.{goes, by_formula, past, leads_on}
+use Rattle.seconds.proofs.divider.Divider.advance.Goals.{After-moment_after-moment, After-of}
 use Rattle.seconds.proofs.divider.Divider.advance.Goals as goal
 
 -- what holds of every run of units
@@ -39,51 +40,50 @@ returns-then-units-left c =
     let h = held c.args.calibration c.args.units before _ w runs in
     record { runs = runs; accounted = h.accounted; parted = h.parted; fits = h.fits; corrected = h.corrected }
 
--- the place that the code found, in terms of the first second that follows
+-- where the code finds that the units lead, in terms of the first second that follows
+begins : (c : After-moment_after-moment) → c.args.self.now.index + 1 ≤ c.moment_after-moment.result.number
+begins c = past c.args.calibration (c.args.self.now.index + 1) _ _ _ c.moment_after-moment.ensures
+
+abbrev counted : After-moment_after-moment → Counts
+counted c =
+    let k = c.args.calibration in
+    let first = c.args.self.now.index + 1 in
+    let second = c.moment_after-moment.result.number in
+    counts_of k (second - first) (corrected k second - corrected k first)
+
+led : (c : After-moment_after-moment)
+    → run_of c.moment_after-moment.result.running (and_one c.args.self.now.length (counted c)) ≡ iterate (unit c.args.calibration) c.args.units (begun (running_of c.args.self.now))
+led c =
+    let p = c.moment_after-moment in
+    sym (leads_on c.args.calibration (running_of c.args.self.now) c.args.units c.from-left.result p.result.number (running_of p.result.running)
+    (omega arith) (omega arith) (omega arith) p.ensures)
+
 pub overflow_sub-seconds : goal.overflow_sub-seconds
-overflow_sub-seconds c =
-    let p = c.place-place.ensures in
-    past c.args.calibration (index_after c.args.self.now.index) _ _ _ _ (omega arith) p.placed p.running p.exact
+overflow_sub-seconds c = omega (arith, begins (goal.at.overflow_sub-seconds c).After-moment_after-moment)
 
 pub overflow_sub-corrected : goal.overflow_sub-corrected
 overflow_sub-corrected c =
-    let p = c.place-place.ensures in
-    let h = corrected_past c.args.calibration (index_after c.args.self.now.index) _ _ _ _ (omega arith) p.placed p.running p.exact in
-    omega arith
+    let first = begins (goal.at.overflow_sub-corrected c).After-moment_after-moment in
+    omega (arith, corrected_grows c.args.calibration _ _ first)
 
--- seconds of one calibration, so many of them corrected
-abbrev sided : Calibration → ℕ → ℕ → Counts
-sided k seconds corrected = record { seconds = seconds; shortened = cond k.shortens corrected 0; lengthened = cond k.shortens 0 corrected }
-
-fits_64 : (s : Bool) (m : ℕ) → m < 9223372036854775808 → (cond s m 0 < 9223372036854775808) × (cond s 0 m < 9223372036854775808)
-fits_64 true m h = (h, omega arith)
-fits_64 false m h = (omega arith, h)
+of : (c : After-of) → c.of.result ≡ counted (goal.at.and_one-requires c).After-moment_after-moment
+of c = cc
 
 pub and_one-requires : goal.and_one-requires
 and_one-requires c =
-    let p = c.place-place.ensures in
-    let few = corrected_within c.args.calibration (c.place-place.result.cycles * 3840 + c.place-place.result.index) in
-    let both = fits_64 c.args.calibration.shortens (c.corrected_in.result - c.corrected_before.result) (omega arith) in
-    let seconds = ap (λ (n : Counts). n.seconds) c.of.ensures in
-    let shortened = ap (λ (n : Counts). n.shortened) c.of.ensures in
-    let lengthened = ap (λ (n : Counts). n.lengthened) c.of.ensures in
-    (omega arith, (omega arith, omega arith))
+    let k = c.args.calibration in
+    let placed = (goal.at.and_one-requires c).After-moment_after-moment in
+    let h = held k c.args.units (running_of c.args.self.now) _ c.args.self.now.within (led placed) in
+    let apart = corrected_apart k _ _ (begins placed) in
+    let parts : Parted c.of.result = subst Parted (sym (of c)) (grind arith) in
+    let most : c.of.result.seconds < 2 ^ 63 = omega (arith, ap (λ (n : Counts). n.seconds) (of c), h.accounted, h.parted) in
+    record { seconds = most; shortened = omega (arith, parts, most); lengthened = omega (arith, parts, most) }
 
 pub returns : goal.returns
 returns c =
-    let k : Calibration = c.args.calibration in
-    let p = c.place-place.ensures in
-    let before : Running = running_of c.args.self.now in
-    let w = c.args.self.now.within in
-    let gone : ℕ = c.place-place.result.gone in
-    let index : ℕ = c.place-place.result.index in
-    let length = c.length_at.ensures in
-    let many : c.corrected_in.result - c.corrected_before.result ≡ _ = λ i. c.corrected_in.ensures i - c.corrected_before.ensures i in
-    let counts : c.and_one.result ≡ _ = c.and_one.ensures ∙ ap (and_one before.length) (c.of.ensures ∙ ap (sided k _) many) in
-    let code : ◌≡◌ {A = Run} _ _ = λ i. record { running = record { gone = gone; index = index; length = length i }; counts = counts i } in
-    let leads =
-    leads_on k before c.args.units (c.units.result - before.gone) c.place-place.result.cycles index gone
-    (omega arith) (omega arith) (omega arith) p.placed p.running p.exact in
-    let runs = code ∙ sym leads in
-    let h = held k c.args.units before _ w runs in
+    let placed = (goal.at.returns c).After-moment_after-moment in
+    let counts : c.and_one.result ≡ and_one c.args.self.now.length (counted placed) =
+    c.and_one.ensures ∙ ap (and_one c.args.self.now.length) (of (goal.at.returns c).After-of) in
+    let runs = ap (run_of c.moment_after-moment.result.running) counts ∙ led placed in
+    let h = held c.args.calibration c.args.units (running_of c.args.self.now) _ c.args.self.now.within runs in
     record { runs = runs; accounted = h.accounted; parted = h.parted; fits = h.fits; corrected = h.corrected }
