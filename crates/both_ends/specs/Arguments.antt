@@ -1,6 +1,6 @@
 -- What the arguments ask for.
 -- Assumes nothing.
-use Rattle.std.specs.Prelude.{◌≡◌, ℕ, ◌^◌, ◌<◌, cond, List, [], ◌∷◌, Some, None, Ok, Err, vec_items, Option, Result, Vec, nat_lt}
+use Rattle.std.specs.Prelude.{◌≡◌, ℕ, ◌^◌, ◌<◌, if◌then◌else◌, List, [], ◌∷◌, Some, None, Ok, Err, vec_items, Option, Result, Vec, nat_lt}
 use Rattle.std.specs.Str.Parse.{IsNumeral, digits_value}
 use Rattle.std.specs.declared.alloc.Global.{Global}
 use Rattle.both_ends.specs.declared.arguments.PairFault.{PairFault}
@@ -25,7 +25,7 @@ abbrev pub stores_in : List ℕ → Result (List Store) PairFault
 stores_in [] = Ok []
 stores_in (address ∷ []) = Err (NoByte address)
 stores_in (address ∷ number ∷ numbers) =
-    cond (nat_lt number 256) (before (record { address = address; byte = number }) (stores_in numbers)) (Err (TooLarge number))
+    if nat_lt number 256 then before (record { address = address; byte = number }) (stores_in numbers) else Err (TooLarge number)
 
 -- The answer is the one due, unless there is no room for it.
 abbrev pub Read : Result (List Store) PairFault → Result (Vec Store Global) PairFault → Type 0

@@ -1,6 +1,6 @@
 -- Stores, one after another: the bytes after them, and what is answered to each.
 -- Assumes nothing.
-use Rattle.std.specs.Prelude.{◌≡◌, ℕ, Bool, cond, List, [], ◌∷◌, map, Result}
+use Rattle.std.specs.Prelude.{◌≡◌, ℕ, Bool, if◌then◌else◌, List, [], ◌∷◌, map, Result}
 use Rattle.memory.specs.Storage.{store_answer, stored}
 use Rattle.memory.specs.declared.fault.MemoryFault.{MemoryFault}
 use Rattle.both_ends.specs.declared.stores.Store.{Store}
@@ -12,7 +12,7 @@ all_stored bytes (store ∷ stores) = all_stored (stored bytes store.address sto
 
 -- all of these stores, or none
 abbrev pub all_or_none : Bool → List ℕ → List Store → List ℕ
-all_or_none done bytes stores = cond done (all_stored bytes stores) bytes
+all_or_none done bytes stores = if done then all_stored bytes stores else bytes
 
 -- all of these stores were carried out, or none was
 abbrev pub Unfinished : List ℕ → List ℕ → List Store → Type 0

@@ -11,11 +11,13 @@ use arguments::{PairFault, hex_number, stores_in};
 use ends::store_in_both;
 use memory::byte_memory::ByteMemory;
 use memory::word_memory::WordMemory;
+use outcome::exit_code;
 use report::Told;
-use std::alloc::AllocFailed;
+use std::alloc::AllocError;
 use std::process::ExitCode;
-use std::{env, fmt, io};
+use std::{env, io};
 use stores::{Store, bytes_held};
+use thiserror::Error;
 
 const HELP: &str = "both_ends: stores bytes into a byte buffer and into a list of words.
 
@@ -34,58 +36,26 @@ as each then gives them, and the words.
 ";
 
 /// Why the program ends with status 1.
-#[derive(Drop)]
+#[derive(Debug, Drop, Error)]
 enum Failure {
+    #[error("an address and a byte are missing; try --help")]
     NoArguments,
+    #[error("'{0}' is no hex number of 64 bits or fewer; try --help")]
     NotNumber(String),
-    Pair(PairFault),
-    Io(io::Error),
-}
-
-impl fmt::Display for Failure {
-    fn fmt<W: fmt::Write>(&self, f: &mut fmt::Formatter<W>) -> fmt::Result {
-        match self {
-            Failure::NoArguments => write!(f, "an address and a byte are missing; try --help"),
-            Failure::NotNumber(argument) => {
-                write!(
-                    f,
-                    "'{argument}' is no hex number of 64 bits or fewer; try --help"
-                )
-            }
-            Failure::Pair(fault) => write!(f, "{fault}; try --help"),
-            Failure::Io(error) => write!(f, "{error}"),
-        }
-    }
-}
-
-impl From<io::Error> for Failure {
-    fn from(error: io::Error) -> Failure {
-        Failure::Io(error)
-    }
-}
-
-impl<T: Drop> From<AllocFailed<T>> for Failure {
-    fn from(refused: AllocFailed<T>) -> Failure {
-        Failure::Io(io::Error::from(refused))
-    }
-}
-
-impl From<PairFault> for Failure {
-    fn from(fault: PairFault) -> Failure {
-        Failure::Pair(fault)
-    }
+    #[error("{0}; try --help")]
+    Pair(#[from] PairFault),
+    #[error("out of memory")]
+    Memory(#[from(alloc)] AllocError),
+    #[error(transparent)]
+    Io(#[from] io::Error),
 }
 
 /// The numbers that the arguments write.
 fn numbers(rt: &HostRuntime) -> Result<Vec<u64>, Failure> {
-    let mut numbers = Vec::new(rt.alloc());
-    for argument in env::args(rt)?.skip(1) {
-        match hex_number(argument.as_str()) {
-            Some(number) => numbers.push(number)?,
-            None => return Err(Failure::NotNumber(argument)),
-        }
-    }
-    Ok(numbers)
+    env::args(rt)?
+        .skip(1)
+        .map(|argument| hex_number(&argument).ok_or(Failure::NotNumber(argument)))
+        .try_collect(rt.alloc())
 }
 
 fn print_bytes(rt: &HostRuntime, label: &str, bytes: &[u8]) -> io::Result<()> {
@@ -101,22 +71,19 @@ fn show(rt: &HostRuntime, stores: &[Store]) -> io::Result<()> {
     let mut buffer = [0; 16];
     let mut words = [0; 4];
     let answers = store_in_both(rt.alloc(), &mut buffer, &mut words, stores)?;
-    let both = answers.buffer.iter().zip(answers.words.iter());
-    for (store, (by_buffer, by_words)) in stores.iter().zip(both) {
-        let Store { address, byte } = *store;
-        let by_buffer = Told(*by_buffer);
-        let by_words = Told(*by_words);
+    let answered = answers.buffer.iter().zip(&answers.words);
+    for (Store { address, byte }, (by_buffer, by_words)) in stores.iter().zip(answered) {
+        let (by_buffer, by_words) = (Told(*by_buffer), Told(*by_words));
         println!(rt; "{byte:02x} at {address:x}: buffer {by_buffer}, words {by_words}")?;
     }
-    let by_buffer = bytes_held(
-        rt.alloc(),
-        &ByteMemory {
-            buffer: &mut buffer,
-        },
-    )?;
-    let by_words = bytes_held(rt.alloc(), &WordMemory { words: &mut words })?;
-    print_bytes(rt, "buffer", by_buffer.as_slice())?;
-    print_bytes(rt, "words ", by_words.as_slice())?;
+    let in_buffer = ByteMemory {
+        buffer: &mut buffer,
+    };
+    let by_buffer = bytes_held(rt.alloc(), &in_buffer)?;
+    let in_words = WordMemory { words: &mut words };
+    let by_words = bytes_held(rt.alloc(), &in_words)?;
+    print_bytes(rt, "buffer", &by_buffer)?;
+    print_bytes(rt, "words ", &by_words)?;
     let [first, second, third, fourth] = words;
     println!(rt; "word by word: {first:08x} {second:08x} {third:08x} {fourth:08x}")?;
     let verdict = if by_buffer == by_words {
@@ -128,25 +95,17 @@ fn show(rt: &HostRuntime, stores: &[Store]) -> io::Result<()> {
 }
 
 fn run(rt: &HostRuntime) -> Result<(), Failure> {
-    let Some(first) = env::args(rt)?.nth(1) else {
-        return Err(Failure::NoArguments);
-    };
-    if first.as_str() == "--help" || first.as_str() == "-h" {
+    let first = env::args(rt)?.nth(1).ok_or(Failure::NoArguments)?;
+    if matches!(first.as_str(), "--help" | "-h") {
         rt.print(HELP)?;
         return Ok(());
     }
     let numbers = numbers(rt)?;
-    let stores = stores_in(rt.alloc(), numbers.as_slice())?;
-    show(rt, stores.as_slice())?;
+    let stores = stores_in(rt.alloc(), &numbers)?;
+    show(rt, &stores)?;
     Ok(())
 }
 
 fn main(rt: HostRuntime) -> ExitCode {
-    match run(&rt) {
-        Ok(()) => ExitCode::SUCCESS,
-        Err(failure) => {
-            let _ = eprintln!(rt; "both_ends: {failure}");
-            ExitCode::FAILURE
-        }
-    }
+    exit_code(&rt, "both_ends", run(&rt))
 }

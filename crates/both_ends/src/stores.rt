@@ -8,7 +8,7 @@ use memory::storage::Memory;
 use std::alloc::{AllocError, Global};
 
 /// A byte to store, and where.
-#[derive(Clone, Copy)]
+#[derive(Clone, Copy, PartialEq, Eq, Debug)]
 pub struct Store {
     pub address: u64,
     pub byte: u8,
@@ -41,9 +41,7 @@ pub fn bytes_held<M: Memory>(heap: Global, memory: &M) -> Result<Vec<u8>, AllocE
 {
     let mut bytes = Vec::new(heap);
     for address in 0..memory.size() {
-        if let Ok(byte) = memory.look(address) {
-            bytes.push(byte)?;
-        }
+        bytes.push(memory.look(address).unwrap())?;
     }
     Ok(bytes)
 }

@@ -1,12 +1,12 @@
 -- What a memory of these bytes answers, and which bytes it has after a store.
 -- Assumes nothing.
-use Rattle.std.specs.Prelude.{ℕ, cond, List, length, Ok, Err, Result, nat_lt, slice_index, slice_set}
+use Rattle.std.specs.Prelude.{ℕ, if◌then◌else◌, List, length, Ok, Err, Result, nat_lt, slice_index, slice_set}
 use Rattle.memory.specs.declared.fault.MemoryFault.{MemoryFault}
 use Rattle.memory.specs.declared.fault.MemoryFault.TheVariants.{NoSuchAddress}
 
 -- This answer at an address below the size; at the size and above there is no such address.
 abbrev pub if_there : {X : Type 0} → List ℕ → ℕ → X → Result X MemoryFault
-if_there bytes address answer = cond (nat_lt address (length bytes)) (Ok answer) (Err NoSuchAddress)
+if_there bytes address answer = if nat_lt address (length bytes) then Ok answer else Err NoSuchAddress
 
 -- A look answers the byte at the address.
 abbrev pub looked : List ℕ → ℕ → Result ℕ MemoryFault

@@ -1,5 +1,6 @@
 -- The bytes of a list of 32-bit words, and the words that have given bytes.
 -- Assumes nothing.
+use Rattle.std.specs.List.{flat_map}
 use Rattle.std.specs.Prelude.{◌≡◌, ℕ, ◌+◌, ◌*◌, ◌/◌, ◌%◌, ◌^◌, ◌<◌, List, [], ◌∷◌, ◌++◌, take, drop, slice_index}
 
 -- the four bytes of a word, the lowest first
@@ -8,8 +9,7 @@ word_bytes word = word % 256 ∷ (word / 256 % 256) ∷ (word / 65536 % 256) ∷
 
 -- the bytes of words, word after word
 abbrev pub unpacked : List ℕ → List ℕ
-unpacked [] = []
-unpacked (word ∷ words) = word_bytes word ++ unpacked words
+unpacked words = flat_map word_bytes words
 
 -- Of a list of words the first 131,072 count, ..
 abbrev pub counted : List ℕ → List ℕ

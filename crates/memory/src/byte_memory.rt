@@ -9,7 +9,7 @@ pub struct ByteMemory<'a> {
     pub buffer: &'a mut [u8],
 }
 
-impl<'a> Memory for ByteMemory<'a> {
+impl Memory for ByteMemory<'_> {
     type Frame = u64;
 
     ghost bytes = { λ m. m.buffer.now };
@@ -22,16 +22,15 @@ impl<'a> Memory for ByteMemory<'a> {
     }
 
     fn look(&self, address: u64) -> Result<u8, MemoryFault> {
-        if address >= self.size() {
-            return Err(MemoryFault::NoSuchAddress);
-        }
-        Ok(self.buffer[address as usize])
+        self.buffer
+            .get(address as usize)
+            .copied()
+            .ok_or(MemoryFault::NoSuchAddress)
     }
 
     fn store(&mut self, address: u64, byte: u8) -> Result<(), MemoryFault> {
-        if address >= self.size() {
-            return Err(MemoryFault::NoSuchAddress);
-        }
+        // Where nothing can be looked at, nothing can be stored.
+        self.look(address)?;
         self.buffer[address as usize] = byte;
         Ok(())
     }

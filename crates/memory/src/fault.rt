@@ -4,7 +4,7 @@ ghost use Rattle.memory.specs.Refusals.{refusal};
 ghost use Rattle.std.specs.Prelude.{◌≡◌};
 
 /// Why a memory refused a call; a refusal changes nothing.
-#[derive(Clone, Copy, PartialEq, Eq, Debug)]
+#[derive(Clone, Copy, PartialEq, Eq, Hash, Debug)]
 pub enum MemoryFault {
     NoSuchAddress,
 }

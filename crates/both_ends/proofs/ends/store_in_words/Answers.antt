@@ -6,12 +6,8 @@ use Rattle.memory.proofs.Words.{known}
 use Rattle.both_ends.specs.Stores.{all_or_none}
 use Rattle.both_ends.proofs.ends.store_in_words.Goals as goal
 
-pub returns : goal.returns
-returns c =
+pub returns-clause-words : goal.returns-clause-words
+returns-clause-words c =
     let words = c.args.words.now in
     let bytes = all_or_none (is_ok c.store_all.result) (bytes_of words) c.args.stores.now in
-    record {
-      answers = search rules;
-      bytes = search rules;
-      words = known _ words bytes (λ i. omega (arith, c.type_inv.words i)) (search rules) (search rules);
-    }
+    known _ words bytes (λ i. omega (arith, c.type_inv.words i)) (search rules) (search rules)

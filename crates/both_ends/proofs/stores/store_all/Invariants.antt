@@ -6,8 +6,13 @@ use Rattle.both_ends.proofs.stores.store_all.Given as goal
 
 abbrev pub invariant-loop-store : goal.invariant-loop-store
 invariant-loop-store g l =
-    ((vec_items l.answers ≡ answers (g.M.Memory.bytes l.initial.memory) (take l.store-index l.stores))
-    × ((vec_len l.answers ≡ l.store-index) × (length l.stores ≤ vec_capacity l.answers)))
-    × ((all_stored (g.M.Memory.bytes l.memory) (drop l.store-index l.stores) ≡ all_stored (g.M.Memory.bytes l.initial.memory) l.stores)
-    × ((length (g.M.Memory.bytes l.memory) ≡ length (g.M.Memory.bytes l.initial.memory))
-    × (g.M.Memory.frame l.memory ≡ g.M.Memory.frame l.initial.memory)))
+    let bytes = g.M.Memory.bytes in
+    let frame = g.M.Memory.frame in
+    record {
+      answered : vec_items l.answers ≡ answers (bytes l.initial.memory) (take l.store-index l.stores);
+      count : vec_len l.answers ≡ l.store-index;
+      room : length l.stores ≤ vec_capacity l.answers;
+      to_come : all_stored (bytes l.memory) (drop l.store-index l.stores) ≡ all_stored (bytes l.initial.memory) l.stores;
+      same_size : length (bytes l.memory) ≡ length (bytes l.initial.memory);
+      same_frame : frame l.memory ≡ frame l.initial.memory;
+    }

@@ -5,4 +5,4 @@ use Rattle.memory.proofs.Words.{length-bytes_of}
 use Rattle.memory.proofs.word_memory.WordMemoryMemory.size.Goals as goal
 
 pub returns : goal.returns
-returns c = omega (arith, length-bytes_of c.args.self.now.words.now)
+returns c = rw c.counted.ensures (omega (arith, length-bytes_of))
