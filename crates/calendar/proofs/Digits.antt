@@ -4,17 +4,11 @@ use Rattle.std.proofs.Common.{◌≡◌, ℕ, ◌+◌, ◌-◌, ◌*◌, ◌/◌
 use lib.Bits.{bit_and, bit_or, and_mask, and_high, or_shifted_r}
 use Rattle.std.proofs.lemmas.Nat.{div_below, mod_below, pow_pos, pow-add, shr_split, mod-mul-add}
 use Rattle.std.proofs.lemmas.Bool.{le-leb, leb-true, and_parts, and_from}
-use Rattle.calendar.specs.Locations.{digits, written, value, stands, joined}
+use Rattle.bcd.specs.Digits.{digits, written}
+use Rattle.bcd.proofs.Laws.{written-digits, digits-written}
+use Rattle.calendar.specs.Locations.{mask, low, high, value, stands, joined}
 use Rattle.calendar.specs.declared.location.Location.{Location}
 use Rattle.dates.specs.Dates.{Between}
-
--- the number that the digits of a number write is that number
-written-digits : (n : ℕ) → written (digits n) ≡ n
-written-digits n = omega arith
-
--- two digits, the lower at most 9, are the digits of the number that they write
-digits-written : (d : ℕ) → d % 16 ≤ 9 → digits (written d) ≡ d
-digits-written d h = omega arith
 
 -- A byte under a mask of k bits, and the j bits above.
 module _ (k j : ℕ) where
@@ -37,29 +31,29 @@ module _ (k j : ℕ) where
       ∙ (ap (λ (m : ℕ). m * 2 ^ k + b % 2 ^ k) high ∙ shr_split b k)))
 
 -- A location whose mask has k bits, with j spare bits above.
-module _ (l : Location) (k j : ℕ) (mask : l.mask ≡ 2 ^ k - 1) (above : 255 - l.mask ≡ 2 ^ (j + k) - 2 ^ k) where
+module _ (l : Location) (k j : ℕ) (bits : mask l ≡ 2 ^ k - 1) (above : 255 - mask l ≡ 2 ^ (j + k) - 2 ^ k) where
   -- what it held is shown again
   pub shown_again : (b n : ℕ) → b < 2 ^ (j + k) → stands l b ≡ true → n ≡ value l b → joined l n b ≡ b
   shown_again b n h s e =
-      let d = bit_and b l.mask in
+      let d = bit_and b (mask l) in
       let ones : d % 16 ≤ 9 =
-      leb-true (d % 16) 9 (and_parts (leb (d / 16) 9) (leb (d % 16) 9) (and_parts (leb (d / 16) 9 && leb (d % 16) 9) (leb l.low (value l b) && leb (value l b) l.high) s).0).1 in
+      leb-true (d % 16) 9 (and_parts (leb (d / 16) 9) (leb (d % 16) 9) (and_parts (leb (d / 16) 9 && leb (d % 16) 9) (leb (low l) (value l b) && leb (value l b) (high l)) s).0).1 in
       ap (λ (m : ℕ). joined l m b) e
-      ∙ (ap (λ (m : ℕ). bit_or m (bit_and b (255 - l.mask))) (digits-written d ones)
-      ∙ ((λ i. bit_or (bit_and b (mask i)) (bit_and b (above i))) ∙ rejoined k j b h))
+      ∙ (ap (λ (m : ℕ). bit_or m (bit_and b (255 - mask l))) (digits-written d ones)
+      ∙ ((λ i. bit_or (bit_and b (bits i)) (bit_and b (above i))) ∙ rejoined k j b h))
 
-  hidden : (n s : ℕ) → digits n < 2 ^ k → bit_and (joined l n s) l.mask ≡ digits n
-  hidden n s h = (λ i. bit_and (bit_or (digits n) (bit_and s (above i))) (mask i)) ∙ masked k j (digits n) s h
+  hidden : (n s : ℕ) → digits n < 2 ^ k → bit_and (joined l n s) (mask l) ≡ digits n
+  hidden n s h = (λ i. bit_and (bit_or (digits n) (bit_and s (above i))) (bits i)) ∙ masked k j (digits n) s h
 
   -- what it shows is read back
-  pub read_again : (n s : ℕ) → digits n < 2 ^ k → n ≤ 99 → Between l.low l.high n → (stands l (joined l n s) ≡ true) × (value l (joined l n s) ≡ n)
+  pub read_again : (n s : ℕ) → digits n < 2 ^ k → n ≤ 99 → Between (low l) (high l) n → (stands l (joined l n s) ≡ true) × (value l (joined l n s) ≡ n)
   read_again n s h top range =
       let b = joined l n s in
-      let d = bit_and b l.mask in
+      let d = bit_and b (mask l) in
       let e = hidden n s h in
       let v : value l b ≡ n = ap written e ∙ written-digits n in (
-        and_from (leb (d / 16) 9 && leb (d % 16) 9) (leb l.low (value l b) && leb (value l b) l.high)
+        and_from (leb (d / 16) 9 && leb (d % 16) 9) (leb (low l) (value l b) && leb (value l b) (high l))
             (and_from (leb (d / 16) 9) (leb (d % 16) 9) (le-leb (d / 16) 9 (omega arith)) (le-leb (d % 16) 9 (omega arith)))
-            (and_from (leb l.low (value l b)) (leb (value l b) l.high) (le-leb l.low (value l b) (omega arith)) (le-leb (value l b) l.high (omega arith))),
+            (and_from (leb (low l) (value l b)) (leb (value l b) (high l)) (le-leb (low l) (value l b) (omega arith)) (le-leb (value l b) (high l) (omega arith))),
         v,
       )

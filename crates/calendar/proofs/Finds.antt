@@ -1,9 +1,9 @@
 -- Whether a search finds anything, and how silences join.
 -- Assumes nothing.
-use Rattle.std.proofs.Common.{◌≡◌, ℕ, zero, suc, ◌/◌, ◌%◌, ◌<◌, ◌≤◌, Bool, true, false, ◌&&◌, ◌||◌, leb, ◌⊎◌, is_some, Some, None, Option, sym, refl, ap, ◌∙◌, subst, inl, inr, not-suc-le-zero, arith}
+use Rattle.std.proofs.Common.{◌≡◌, ℕ, zero, suc, ◌<◌, ◌≤◌, Bool, true, false, ◌&&◌, ◌||◌, leb, ◌⊎◌, is_some, Some, None, Option, sym, refl, subst, inl, inr, not-suc-le-zero, arith}
 use Rattle.std.proofs.lemmas.Bool.{cases_Bool, cases_lt, cases_order, and_from, and_parts, false≢true, le-leb, leb-true, or_cases, or_from, or_left, or_right}
 use Rattle.calendar.specs.Alarm.{some_below}
-use Rattle.calendar.specs.Earliest.{Quiet, Earliest, parted}
+use Rattle.calendar.specs.Earliest.{Quiet, Earliest}
 
 -- what passes the test below a limit is found there
 pub some_passes : (test : ℕ → Bool) (limit k : ℕ) → k < limit → test k ≡ true → some_below test limit ≡ true
@@ -51,20 +51,3 @@ quiet_join test from mid to p q j l u t = go (cases_lt j mid)
     go : (j < mid) ⊎ (mid ≤ j) → ⊥
     go (inl b) = p j l b t
     go (inr g) = q j g u t
-
--- Numbers by quotient and remainder: where the quotients, or the remainders, are silent, so are the numbers.
-module _ (width : ℕ) (outer inner : ℕ → Bool) (from to a b : ℕ) where
-  pub quiet_outer : Quiet outer a b → ((j : ℕ) → from ≤ j → j < to → (a ≤ j / width) × (j / width < b)) → Quiet (parted width outer inner) from to
-  quiet_outer q within j l u t =
-      let w = within j l u in
-      q (j / width) w.0 w.1 (and_parts (outer (j / width)) (inner (j % width)) t).0
-
-  pub quiet_inner : Quiet inner a b → ((j : ℕ) → from ≤ j → j < to → (a ≤ j % width) × (j % width < b)) → Quiet (parted width outer inner) from to
-  quiet_inner q within j l u t =
-      let w = within j l u in
-      q (j % width) w.0 w.1 (and_parts (outer (j / width)) (inner (j % width)) t).1
-
--- both tests pass at a number of that quotient and remainder
-pub passes_both : (width : ℕ) (outer inner : ℕ → Bool) (n a r : ℕ) → n / width ≡ a → n % width ≡ r → outer a ≡ true → inner r ≡ true → parted width outer inner n ≡ true
-passes_both width outer inner n a r p q s t =
-    and_from (outer (n / width)) (inner (n % width)) (ap outer p ∙ s) (ap inner q ∙ t)

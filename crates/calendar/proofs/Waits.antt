@@ -6,7 +6,7 @@ use Rattle.dates.proofs.Sweeps.{all_below, all_at}
 use Rattle.dates.specs.Dates.{date_after}
 use Rattle.steps.specs.Iterate.{iterate}
 use Rattle.calendar.specs.Alarm.{heard, some_below}
-use Rattle.calendar.specs.Locations.{seconds, minutes, hours, date}
+use Rattle.calendar.specs.declared.location.Location.TheVariants.{Seconds, Minutes, Hours, Date}
 use Rattle.calendar.specs.Earliest.{Quiet, in_hour, in_day, on_date}
 use Rattle.calendar.specs.Specimens.{march_noon, LongestWait, NoSuchDate}
 use Rattle.calendar.specs.Time.{next}
@@ -22,9 +22,9 @@ alarm = 0 ∷ 0 ∷ 18 ∷ 49 ∷ []
 noon_only : (d s : ℕ) → on_date alarm d s ≡ true → s ≡ 43200
 unfolding alarm
 noon_only d s t =
-    let p = (and_parts (heard date 49 d) (in_day alarm s) t).1 in
-    let q = and_parts (heard hours 18 (s / 3600)) (in_hour alarm (s % 3600)) p in
-    let r = and_parts (heard minutes 0 (s % 3600 / 60)) (heard seconds 0 (s % 3600 % 60)) q.1 in
+    let p = (and_parts (heard Date 49 d) (in_day alarm s) t).1 in
+    let q = and_parts (heard Hours 18 (s / 3600)) (in_hour alarm (s % 3600)) p in
+    let r = and_parts (heard Minutes 0 (s % 3600 / 60)) (heard Seconds 0 (s % 3600 % 60)) q.1 in
     let hour = eqb-true 18 (16 * (s / 3600 / 10) + s / 3600 % 10) q.0 in
     let minute = eqb-true 0 (16 * (s % 3600 / 60 / 10) + s % 3600 / 60 % 10) r.0 in
     let second = eqb-true 0 (16 * (s % 3600 % 60 / 10) + s % 3600 % 60 % 10) r.1 in
@@ -32,7 +32,7 @@ noon_only d s t =
 
 -- the 60 days after 31 March are no 31st
 no_31st : ℕ → ℕ → Bool
-no_31st year i = not (heard date 49 (iterate date_after (i + 1) (record { date = 31; month = 3; year = year })).date)
+no_31st year i = not (heard Date 49 (iterate date_after (i + 1) (record { date = 31; month = 3; year = year })).date)
 
 all_no_31st : (year : ℕ) → T (all_below (no_31st year) 60)
 unfolding all_below no_31st iterate
@@ -43,7 +43,7 @@ unfolding alarm no_31st
 quiet_days day year j l u r =
     let i = j / 86400 - 1 in
     let p : j / 86400 ≡ i + 1 = omega arith in
-    let on : ℕ → Bool = λ n. heard date 49 (iterate date_after n (record { date = 31; month = 3; year = year })).date in
+    let on : ℕ → Bool = λ n. heard Date 49 (iterate date_after n (record { date = 31; month = 3; year = year })).date in
     both_ways (on (i + 1)) (refused (on (i + 1)) (all_at (no_31st year) 60 (all_no_31st year) i (omega arith)))
     (sym (ap on p) ∙ (and_parts (on (j / 86400)) (in_day alarm (j % 86400)) r).0)
   where

@@ -2,20 +2,22 @@
 -- Assumes nothing.
 use Rattle.std.specs.Prelude.{◌≡◌, ℕ, zero, suc, ◌+◌, ◌<◌, ◌≤◌, Bool, true, false, ◌&&◌, ◌||◌, List, Some, None, Option, ◌==◌, bit_and, nat_le, slice_index}
 use Rattle.steps.specs.Iterate.{iterate}
-use Rattle.calendar.specs.Locations.{seconds, minutes, hours, date, digits}
+use Rattle.bcd.specs.Digits.{digits}
+use Rattle.calendar.specs.Locations.{mask, low, high}
 use Rattle.calendar.specs.Time.{Time, Exists, next}
 use Rattle.calendar.specs.declared.location.Location.{Location}
+use Rattle.calendar.specs.declared.location.Location.TheVariants.{Seconds, Minutes, Hours, Date}
 
 -- A byte with bit 7 set hears every number; any other hears the number whose digits it has under the location's mask.
 abbrev pub heard : Location → ℕ → ℕ → Bool
-heard l byte n = nat_le 128 byte || bit_and byte l.mask == digits n
+heard l byte n = nat_le 128 byte || bit_and byte (mask l) == digits n
 
 -- The bytes are for the second, the minute, the hour and the date; each hears its number.
 abbrev pub matches : List ℕ → Time → Bool
 matches alarm t =
-    heard date (slice_index alarm 3) t.date.date
-    && (heard hours (slice_index alarm 2) t.hour
-    && (heard minutes (slice_index alarm 1) t.minute && heard seconds (slice_index alarm 0) t.second))
+    heard Date (slice_index alarm 3) t.date.date
+    && (heard Hours (slice_index alarm 2) t.hour
+    && (heard Minutes (slice_index alarm 1) t.minute && heard Seconds (slice_index alarm 0) t.second))
 
 -- some number below n passes the test
 unfoldable pub some_below : (ℕ → Bool) → ℕ → Bool
@@ -24,13 +26,13 @@ some_below test (suc n) = test n || some_below test n
 
 -- Some number in the location's range is heard.
 abbrev pub hearable : Location → ℕ → Bool
-hearable l byte = some_below (λ n. nat_le l.low n && heard l byte n) (l.high + 1)
+hearable l byte = some_below (λ n. nat_le (low l) n && heard l byte n) (high l + 1)
 
 -- Some date, some hour, some minute and some second are heard.
 abbrev pub matchable : List ℕ → Bool
 matchable alarm =
-    hearable date (slice_index alarm 3)
-    && (hearable hours (slice_index alarm 2) && (hearable minutes (slice_index alarm 1) && hearable seconds (slice_index alarm 0)))
+    hearable Date (slice_index alarm 3)
+    && (hearable Hours (slice_index alarm 2) && (hearable Minutes (slice_index alarm 1) && hearable Seconds (slice_index alarm 0)))
 
 -- Some time that exists matches.
 abbrev pub Matchable : List ℕ → Type 0

@@ -1,6 +1,6 @@
 -- A time of the clock, the times that exist, and the time one second on.
 -- Assumes nothing.
-use Rattle.std.specs.Prelude.{ℕ, ◌+◌, ◌<◌, cond, nat_lt}
+use Rattle.std.specs.Prelude.{ℕ, ◌+◌, ◌<◌, if◌then◌else◌, nat_lt}
 use Rattle.dates.specs.Dates.{Date, Dated, Between, date_after}
 
 pub record Time : Type 0 where
@@ -16,15 +16,12 @@ Exists t = (((t.second < 60) × (t.minute < 60)) × ((t.hour < 24) × Between 1 
 
 -- The day of the week that follows, whatever the date: 7, then 1.
 abbrev pub day_after : ℕ → ℕ
-day_after day = cond (nat_lt day 7) (day + 1) 1
+day_after day = if nat_lt day 7 then day + 1 else 1
 
 -- One second on.
 abbrev pub next : Time → Time
 next t =
-    cond (nat_lt t.second 59)
-    (record { second = t.second + 1; minute = t.minute; hour = t.hour; day = t.day; date = t.date })
-    (cond (nat_lt t.minute 59)
-    (record { second = 0; minute = t.minute + 1; hour = t.hour; day = t.day; date = t.date })
-    (cond (nat_lt t.hour 23)
-    (record { second = 0; minute = 0; hour = t.hour + 1; day = t.day; date = t.date })
-    (record { second = 0; minute = 0; hour = 0; day = day_after t.day; date = date_after t.date })))
+    if nat_lt t.second 59 then record { second = t.second + 1; minute = t.minute; hour = t.hour; day = t.day; date = t.date }
+    else (if nat_lt t.minute 59 then record { second = 0; minute = t.minute + 1; hour = t.hour; day = t.day; date = t.date }
+    else (if nat_lt t.hour 23 then record { second = 0; minute = 0; hour = t.hour + 1; day = t.day; date = t.date }
+    else record { second = 0; minute = 0; hour = 0; day = day_after t.day; date = date_after t.date }))

@@ -1,68 +1,108 @@
 //! The alarm: its four bytes, and the times that they match.
 
-ghost use Rattle.std.specs.Prelude.{◌≡◌, ◌+◌, ◌≤◌, true};
+ghost use Rattle.std.specs.Prelude.{◌≡◌, ◌+◌, ◌≤◌, true, bit_and};
+ghost use Rattle.bcd.specs.Written.{WrittenIn};
 ghost use Rattle.calendar.specs.Alarm.{Matchable, heard, hearable, matchable, matches};
-ghost use Rattle.calendar.specs.Earliest.{Earliest};
+ghost use Rattle.calendar.specs.Earliest.{Earliest, alarm_bytes};
+ghost use Rattle.calendar.specs.Locations.{high, mask};
 ghost use Rattle.calendar.specs.Of.{time_of};
 
 use crate::counters::Counters;
-use crate::location::{LOCATIONS, Location};
+use crate::location::Location;
+use bcd::TwoDigits;
 
 /// The alarm's bytes for the second, the minute, the hour and the date.
-#[derive(Clone, Copy)]
+#[derive(Clone, Copy, PartialEq, Eq, Hash, Debug)]
 pub struct Alarm {
     pub bytes: [u8; 4],
 }
 
-/// The bit of an alarm byte that makes it hear every number.
+/// The alarm's byte for one location.
+#[derive(Clone, Copy)]
+pub(crate) struct AlarmByte {
+    location: Location,
+    byte: u8,
+}
+
+/// The alarm's bytes, each with its location.
+#[derive(Clone, Copy)]
+pub(crate) struct AlarmBytes {
+    pub(crate) second: AlarmByte,
+    pub(crate) minute: AlarmByte,
+    pub(crate) hour: AlarmByte,
+    pub(crate) date: AlarmByte,
+}
+
+/// From this byte on bit 7 is set, and an alarm byte hears every number.
 const IGNORE: u8 = 0x80;
 
-impl Location {
-    /// Whether an alarm byte hears this number of the location.
-    pub(crate) fn hears(self, byte: u8, number: u32) -> bool
+impl AlarmByte {
+    /// The number that its digits write.
+    fn wanted(self) -> Option<TwoDigits>
+        ensures { WrittenIn (bit_and self.byte (mask self.location)) result }
+    {
+        TwoDigits::written_in(self.byte & self.location.mask())
+    }
+
+    /// Whether it hears this number of its location.
+    pub(crate) fn hears(self, number: u8) -> bool
         requires { number ≤ 99 }
-        ensures { result ≡ heard self byte number }
+        ensures { result ≡ heard self.location self.byte number }
     {
-        byte >= IGNORE || (byte & self.mask) as u32 == 16 * (number / 10) + number % 10
+        self.byte >= IGNORE || self.wanted() == Some(TwoDigits { number })
     }
 
-    /// The first number of the location, from `from` on, that an alarm byte hears.
-    pub(crate) fn first_heard(self, byte: u8, from: u32) -> Option<u32>
-        ensures { Earliest (heard self byte) from (self.high + 1) result }
+    /// The first number of its location, from `from` on, that it hears.
+    pub(crate) fn first_heard(self, from: u32) -> Option<u32>
+        ensures { Earliest (heard self.location self.byte) from (high self.location + 1) result }
     {
-        let high = self.high as u32;
-        if from > high {
-            return None;
-        }
-        if byte >= IGNORE {
-            return Some(from);
-        }
-        let digits = (byte & self.mask) as u32;
-        let wanted = 10 * (digits / 16) + digits % 16;
-        if digits % 16 > 9 || wanted < from || wanted > high {
-            return None;
-        }
-        Some(wanted)
+        let first = if self.byte >= IGNORE {
+            from
+        } else {
+            u32::from(self.wanted()?.number)
+        };
+        (from..=u32::from(self.location.high()))
+            .contains(&first)
+            .then_some(first)
     }
 
-    /// Whether an alarm byte hears any number of the location.
-    fn can_hear(self, byte: u8) -> bool
-        ensures { result ≡ hearable self byte }
+    /// Whether it hears any number of its location.
+    fn can_hear(self) -> bool
+        ensures { result ≡ hearable self.location self.byte }
     {
-        self.first_heard(byte, self.low as u32).is_some()
+        self.first_heard(u32::from(self.location.low())).is_some()
     }
 }
 
 impl Alarm {
+    /// Which byte is for which location.
+    pub(crate) fn by_location(&self) -> AlarmBytes
+        ensures { result ≡ alarm_bytes self.now.bytes }
+    {
+        let [second, minute, hour, date] = self.bytes;
+        let at = |location, byte| AlarmByte { location, byte };
+        AlarmBytes {
+            second: at(Location::Seconds, second),
+            minute: at(Location::Minutes, minute),
+            hour: at(Location::Hours, hour),
+            date: at(Location::Date, date),
+        }
+    }
+
     /// Whether the counters match now.
     pub fn matches(&self, counters: &Counters) -> bool
         ensures { result ≡ matches self.now.bytes (time_of counters.now) }
     {
-        let [seconds, minutes, hours, _, dates, ..] = LOCATIONS;
-        dates.hears(self.bytes[3], counters.date.date as u32)
-            && hours.hears(self.bytes[2], counters.hour as u32)
-            && minutes.hears(self.bytes[1], counters.minute as u32)
-            && seconds.hears(self.bytes[0], counters.second as u32)
+        let AlarmBytes {
+            second,
+            minute,
+            hour,
+            date,
+        } = self.by_location();
+        date.hears(counters.date.date)
+            && hour.hears(counters.hour)
+            && minute.hears(counters.minute)
+            && second.hears(counters.second)
     }
 
     /// Whether any time at all matches.
@@ -71,10 +111,12 @@ impl Alarm {
         ensures some { result ≡ true → Matchable self.now.bytes }
         ensures all { Matchable self.now.bytes → result ≡ true }
     {
-        let [seconds, minutes, hours, _, dates, ..] = LOCATIONS;
-        dates.can_hear(self.bytes[3])
-            && hours.can_hear(self.bytes[2])
-            && minutes.can_hear(self.bytes[1])
-            && seconds.can_hear(self.bytes[0])
+        let AlarmBytes {
+            second,
+            minute,
+            hour,
+            date,
+        } = self.by_location();
+        date.can_hear() && hour.can_hear() && minute.can_hear() && second.can_hear()
     }
 }

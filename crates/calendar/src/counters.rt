@@ -6,7 +6,7 @@ ghost use Rattle.dates.specs.Of.{date_of};
 use dates::date::CalendarDate;
 
 /// The time that the clock counts; it always exists.
-#[derive(Clone, Copy)]
+#[derive(Clone, Copy, PartialEq, Eq, Hash, Debug)]
 pub struct Counters {
     pub second: u8,
     pub minute: u8,

@@ -3,10 +3,12 @@
 ghost use Rattle.calendar.specs.Refusals.{refusal};
 ghost use Rattle.std.specs.Prelude.{◌≡◌};
 
-/// The seven locations are no date; `location` is the number of the one at fault.
-#[derive(Clone, Copy, PartialEq, Eq, Debug)]
+use crate::location::Location;
+
+/// The seven locations are no date; `location` is the one at fault.
+#[derive(Clone, Copy, PartialEq, Eq, Hash, Debug)]
 pub struct CalendarFault {
-    pub location: u8,
+    pub location: Location,
 }
 
 impl CalendarFault {

@@ -1,85 +1,61 @@
 //! The first later match: found by arithmetic inside a day, and day by day.
 
-ghost use Rattle.std.specs.Prelude.{◌+◌, ◌*◌, ◌/◌, ◌<◌, ◌≤◌};
-ghost use Rattle.calendar.specs.Alarm.{Answers};
-ghost use Rattle.calendar.specs.Earliest.{Earliest, in_day, in_hour, on_date};
+ghost use Rattle.std.specs.Prelude.{◌≡◌, ℕ, ◌+◌, ◌*◌, ◌<◌, ◌≤◌, Bool};
+ghost use Rattle.calendar.specs.Alarm.{Answers, heard};
+ghost use Rattle.calendar.specs.Earliest.{Earliest, FindsFirst, in_day, in_hour, on_date, parted};
+ghost use Rattle.calendar.specs.Locations.{high};
 ghost use Rattle.calendar.specs.Of.{time_of};
 
-use crate::alarm::Alarm;
+use crate::alarm::{Alarm, AlarmByte, AlarmBytes};
 use crate::counters::Counters;
-use crate::location::LOCATIONS;
+use crate::moving::{DAY, HOUR, MINUTE};
 use dates::date::CalendarDate;
 
-/// The seconds of a day.
-const DAY: u32 = 86_400;
+/// The first number from `from` on whose quotient by `width` the byte hears and whose remainder passes a test;
+/// `first_within` answers with the first remainder, from a number on, that does.
+fn first_parted<F: Fn(u32) -> Option<u32>>(
+    outer: AlarmByte,
+    width: u32,
+    first_within: F,
+    from: u32,
+) -> Option<u32>
+    requires width { 1 ≤ width × width ≤ 3600 }
+    requires callable { F.IsAlwaysCallable first_within }
+    requires finds { (test : ℕ → Bool) × FindsFirst (F.post first_within) test width }
+    ensures { (test : ℕ → Bool) → FindsFirst (F.post first_within) test width → Earliest (parted width (heard outer.location outer.byte) test) from ((high outer.location + 1) * width) result }
+{
+    let first = outer.first_heard(from / width)?;
+    let start = from.saturating_sub(first * width);
+    if let Some(rest) = first_within(start) {
+        return Some(first * width + rest);
+    }
+    let next = outer.first_heard(first + 1)?;
+    let rest = first_within(0)?;
+    Some(next * width + rest)
+}
 
 impl Alarm {
-    /// The first matching second of an hour, from `from` on, that lies in the minute of `from`.
-    fn first_in_minute(&self, from: u32) -> Option<u32>
-        requires { from < 3600 }
-        ensures { Earliest (in_hour self.now.bytes) from (60 * (from / 60) + 60) result }
-    {
-        let [seconds, minutes, ..] = LOCATIONS;
-        let minute = from / 60;
-        if !minutes.hears(self.bytes[1], minute) {
-            return None;
-        }
-        let second = seconds.first_heard(self.bytes[0], from % 60)?;
-        Some(60 * minute + second)
-    }
-
     /// The first matching second of an hour, from `from` on.
     fn first_in_hour(&self, from: u32) -> Option<u32>
-        requires { from < 3600 }
         ensures { Earliest (in_hour self.now.bytes) from 3600 result }
     {
-        if let Some(second) = self.first_in_minute(from) {
-            return Some(second);
-        }
-        let [seconds, minutes, ..] = LOCATIONS;
-        let minute = minutes.first_heard(self.bytes[1], from / 60 + 1)?;
-        let second = seconds.first_heard(self.bytes[0], 0)?;
-        Some(60 * minute + second)
-    }
-
-    /// The first matching second of a day, from `from` on, that lies in the hour of `from`.
-    fn first_in_same_hour(&self, from: u32) -> Option<u32>
-        requires { from < 86400 }
-        ensures { Earliest (in_day self.now.bytes) from (3600 * (from / 3600) + 3600) result }
-    {
-        let [_, _, hours, ..] = LOCATIONS;
-        let hour = from / 3600;
-        if !hours.hears(self.bytes[2], hour) {
-            return None;
-        }
-        let second = self.first_in_hour(from % 3600)?;
-        Some(3600 * hour + second)
+        let AlarmBytes { second, minute, .. } = self.by_location();
+        first_parted(minute, MINUTE, |start| second.first_heard(start), from)
     }
 
     /// The first matching second of a day, from `from` on.
     fn first_in_day(&self, from: u32) -> Option<u32>
-        requires { from ≤ 86400 }
         ensures { Earliest (in_day self.now.bytes) from 86400 result }
     {
-        if from >= DAY {
-            return None;
-        }
-        if let Some(second) = self.first_in_same_hour(from) {
-            return Some(second);
-        }
-        let [_, _, hours, ..] = LOCATIONS;
-        let hour = hours.first_heard(self.bytes[2], from / 3600 + 1)?;
-        let second = self.first_in_hour(0)?;
-        Some(3600 * hour + second)
+        let hour = self.by_location().hour;
+        first_parted(hour, HOUR, |start| self.first_in_hour(start), from)
     }
 
     /// The first matching second of a day of this date, from `from` on.
     fn first_on(&self, date: CalendarDate, from: u32) -> Option<u32>
-        requires { from ≤ 86400 }
         ensures { Earliest (on_date self.now.bytes date.date) from 86400 result }
     {
-        let [_, _, _, _, dates, ..] = LOCATIONS;
-        if !dates.hears(self.bytes[3], date.date as u32) {
+        if !self.by_location().date.hears(date.date) {
             return None;
         }
         self.first_in_day(from)

@@ -1,86 +1,82 @@
-//! The seven clock locations: one table of their numbers, masks and ranges.
+//! The seven clock locations: their registers, their digits and the range of their numbers.
 
 ghost use Rattle.std.specs.Prelude.{◌≡◌, ◌≤◌};
-ghost use Rattle.calendar.specs.Locations.{joined};
+ghost use Rattle.calendar.specs.Locations.{high, joined, low, mask, number};
 ghost use Rattle.calendar.specs.Reading.{Counts};
 
 use crate::fault::CalendarFault;
+use bcd::TwoDigits;
 
-/// One clock location: its register number, the mask of its digits, and the range of its numbers.
-#[derive(Clone, Copy)]
-pub struct Location {
-    pub number: u8,
-    pub mask: u8,
-    pub low: u8,
-    pub high: u8,
+/// A clock location, with the number of its register; the day is that of the week, the date that of the month.
+#[derive(Clone, Copy, PartialEq, Eq, PartialOrd, Ord, Hash, Debug)]
+pub enum Location {
+    Seconds = 9,
+    Minutes = 10,
+    Hours = 11,
+    Day = 12,
+    Date = 13,
+    Month = 14,
+    Year = 15,
 }
 
-/// Seconds, minutes, hours, day (of the week), date (of the month), month, year.
-pub const LOCATIONS: [Location; 7] = [
-    Location {
-        number: 9,
-        mask: 0x7f,
-        low: 0,
-        high: 59,
-    },
-    Location {
-        number: 10,
-        mask: 0x7f,
-        low: 0,
-        high: 59,
-    },
-    Location {
-        number: 11,
-        mask: 0x3f,
-        low: 0,
-        high: 23,
-    },
-    Location {
-        number: 12,
-        mask: 0x07,
-        low: 1,
-        high: 7,
-    },
-    Location {
-        number: 13,
-        mask: 0x3f,
-        low: 1,
-        high: 31,
-    },
-    Location {
-        number: 14,
-        mask: 0x1f,
-        low: 1,
-        high: 12,
-    },
-    Location {
-        number: 15,
-        mask: 0xff,
-        low: 0,
-        high: 99,
-    },
-];
-
 impl Location {
+    /// The number of its register.
+    pub fn number(self) -> u8
+        ensures { result ≡ number self }
+    {
+        self as u8
+    }
+
+    /// The bits that hold its digits; the others are spare.
+    pub fn mask(self) -> u8
+        ensures { result ≡ mask self }
+    {
+        match self {
+            Location::Seconds | Location::Minutes => 0x7f,
+            Location::Hours | Location::Date => 0x3f,
+            Location::Day => 0x07,
+            Location::Month => 0x1f,
+            Location::Year => 0xff,
+        }
+    }
+
+    /// The lowest number that it counts.
+    pub fn low(self) -> u8
+        ensures { result ≡ low self }
+    {
+        match self {
+            Location::Day | Location::Date | Location::Month => 1,
+            Location::Seconds | Location::Minutes | Location::Hours | Location::Year => 0,
+        }
+    }
+
+    /// The highest number that it counts.
+    pub fn high(self) -> u8
+        ensures { result ≡ high self }
+    {
+        match self {
+            Location::Seconds | Location::Minutes => 59,
+            Location::Hours => 23,
+            Location::Day => 7,
+            Location::Date => 31,
+            Location::Month => 12,
+            Location::Year => 99,
+        }
+    }
+
     /// The number that the location holds, where its digits are digits and their number is in its range.
     pub(crate) fn value(self, byte: u8) -> Result<u8, CalendarFault>
         ensures { Counts self byte result }
     {
-        let digits = byte & self.mask;
-        let tens = digits / 16;
-        let ones = digits % 16;
-        if tens > 9 || ones > 9 {
-            return Err(CalendarFault {
-                location: self.number,
-            });
+        let fault = CalendarFault { location: self };
+        let number = TwoDigits::written_in(byte & self.mask())
+            .ok_or(fault)?
+            .number;
+        if (self.low()..=self.high()).contains(&number) {
+            Ok(number)
+        } else {
+            Err(fault)
         }
-        let number = 10 * tens + ones;
-        if number < self.low || number > self.high {
-            return Err(CalendarFault {
-                location: self.number,
-            });
-        }
-        Ok(number)
     }
 
     /// The byte that shows a number: its digits, joined with the spare bits of `spare`.
@@ -88,6 +84,6 @@ impl Location {
         requires { number ≤ 99 }
         ensures { result ≡ joined self number spare }
     {
-        (16 * (number / 10) + number % 10) | (spare & !self.mask)
+        TwoDigits { number }.digits() | (spare & !self.mask())
     }
 }

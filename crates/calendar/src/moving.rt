@@ -8,6 +8,15 @@ ghost use Rattle.steps.specs.Iterate.{iterate};
 
 use crate::counters::Counters;
 
+/// The seconds of a minute.
+pub(crate) const MINUTE: u32 = 60;
+
+/// The seconds of an hour.
+pub(crate) const HOUR: u32 = 60 * MINUTE;
+
+/// The seconds of a day.
+pub(crate) const DAY: u32 = 24 * HOUR;
+
 impl Counters {
     /// One second on.
     pub fn tick(&mut self)
@@ -37,20 +46,21 @@ impl Counters {
         ensures is { result ≡ second_of_day (time_of self.now) }
         ensures below { result < 86400 }
     {
-        3600 * self.hour as u32 + 60 * self.minute as u32 + self.second as u32
+        HOUR * u32::from(self.hour) + MINUTE * u32::from(self.minute) + u32::from(self.second)
     }
 
     /// So many seconds on, in one step.
     pub fn advance(&mut self, seconds: u32)
         ensures { time_of self.new ≡ iterate next seconds (time_of self.old) }
     {
-        let seconds = self.second_of_day() as u64 + seconds as u64;
-        let days = (seconds / 86_400) as u32;
-        let rest = (seconds % 86_400) as u32;
-        self.second = (rest % 3600 % 60) as u8;
-        self.minute = (rest % 3600 / 60) as u8;
-        self.hour = (rest / 3600) as u8;
-        self.day = 1 + ((self.day as u32 - 1 + days) % 7) as u8;
+        let seconds = u64::from(self.second_of_day()) + u64::from(seconds);
+        let day = u64::from(DAY);
+        let days = (seconds / day) as u32;
+        let rest = (seconds % day) as u32;
+        self.second = (rest % HOUR % MINUTE) as u8;
+        self.minute = (rest % HOUR / MINUTE) as u8;
+        self.hour = (rest / HOUR) as u8;
+        self.day = 1 + ((u32::from(self.day) - 1 + days) % 7) as u8;
         self.date = self.date.later(days);
     }
 }

@@ -6,7 +6,7 @@ ghost use Rattle.std.specs.Prelude.{◌≡◌, IfOk, Ok};
 
 use crate::counters::Counters;
 use crate::fault::CalendarFault;
-use crate::location::LOCATIONS;
+use crate::location::Location;
 use dates::date::CalendarDate;
 use dates::months::month_length;
 
@@ -16,17 +16,17 @@ impl Counters {
         ensures is { read_as result ≡ reading bytes.now }
         ensures again { IfOk result (λ c. locations_of (time_of c) bytes.now ≡ bytes.now) }
     {
-        let [seconds, minutes, hours, days, dates, months, years] = LOCATIONS;
-        let second = seconds.value(bytes[0])?;
-        let minute = minutes.value(bytes[1])?;
-        let hour = hours.value(bytes[2])?;
-        let day = days.value(bytes[3])?;
-        let date = dates.value(bytes[4])?;
-        let month = months.value(bytes[5])?;
-        let year = years.value(bytes[6])?;
+        let [second, minute, hour, day, date, month, year] = *bytes;
+        let second = Location::Seconds.value(second)?;
+        let minute = Location::Minutes.value(minute)?;
+        let hour = Location::Hours.value(hour)?;
+        let day = Location::Day.value(day)?;
+        let date = Location::Date.value(date)?;
+        let month = Location::Month.value(month)?;
+        let year = Location::Year.value(year)?;
         if date > month_length(year, month) {
             return Err(CalendarFault {
-                location: dates.number,
+                location: Location::Date,
             });
         }
         let date = CalendarDate { date, month, year };
@@ -44,15 +44,15 @@ impl Counters {
         ensures is { result ≡ locations_of (time_of self.now) spare.now }
         ensures back { reading result ≡ Ok (time_of self.now) }
     {
-        let [seconds, minutes, hours, days, dates, months, years] = LOCATIONS;
+        let [second, minute, hour, day, date, month, year] = *spare;
         [
-            seconds.shown(self.second, spare[0]),
-            minutes.shown(self.minute, spare[1]),
-            hours.shown(self.hour, spare[2]),
-            days.shown(self.day, spare[3]),
-            dates.shown(self.date.date, spare[4]),
-            months.shown(self.date.month, spare[5]),
-            years.shown(self.date.year, spare[6]),
+            Location::Seconds.shown(self.second, second),
+            Location::Minutes.shown(self.minute, minute),
+            Location::Hours.shown(self.hour, hour),
+            Location::Day.shown(self.day, day),
+            Location::Date.shown(self.date.date, date),
+            Location::Month.shown(self.date.month, month),
+            Location::Year.shown(self.date.year, year),
         ]
     }
 

@@ -1,6 +1,6 @@
 -- Dates of a calendar with two digits of the year: the lengths of months, the dates that exist, the date that follows.
 -- Assumes nothing.
-use Rattle.std.specs.Prelude.{ℕ, ◌+◌, ◌%◌, ◌<◌, ◌≤◌, cond, ◌||◌, ◌==◌, nat_lt}
+use Rattle.std.specs.Prelude.{ℕ, ◌+◌, ◌%◌, ◌<◌, ◌≤◌, if◌then◌else◌, ◌||◌, ◌==◌, nat_lt}
 
 pub record Date : Type 0 where
   pub date : ℕ
@@ -10,8 +10,8 @@ pub record Date : Type 0 where
 -- February has 29 days when 4 divides the year, 00 included; April, June, September and November have 30.
 abbrev pub month_length : ℕ → ℕ → ℕ
 month_length year month =
-    cond (month == 2) (cond (year % 4 == 0) 29 28)
-    (cond (month == 4 || (month == 6 || (month == 9 || month == 11))) 30 31)
+    if month == 2 then (if year % 4 == 0 then 29 else 28)
+    else (if month == 4 || (month == 6 || (month == 9 || month == 11)) then 30 else 31)
 
 abbrev pub Between : ℕ → ℕ → ℕ → Type 0
 Between low high n = (low ≤ n) × (n ≤ high)
@@ -23,10 +23,7 @@ Dated d = Between 1 (month_length d.year d.month) d.date × (Between 1 12 d.mont
 -- The date that follows; after 31 December 99 comes 1 January 00.
 abbrev pub date_after : Date → Date
 date_after d =
-    cond (nat_lt d.date (month_length d.year d.month))
-    (record { date = d.date + 1; month = d.month; year = d.year })
-    (cond (nat_lt d.month 12)
-    (record { date = 1; month = d.month + 1; year = d.year })
-    (cond (nat_lt d.year 99)
-    (record { date = 1; month = 1; year = d.year + 1 })
-    (record { date = 1; month = 1; year = 0 })))
+    if nat_lt d.date (month_length d.year d.month) then record { date = d.date + 1; month = d.month; year = d.year }
+    else (if nat_lt d.month 12 then record { date = 1; month = d.month + 1; year = d.year }
+    else (if nat_lt d.year 99 then record { date = 1; month = 1; year = d.year + 1 }
+    else record { date = 1; month = 1; year = 0 }))

@@ -3,7 +3,7 @@
 ghost use Rattle.dates.specs.Dates.{Dated};
 
 /// The counters of date, month and year; together they always are a date that exists.
-#[derive(Clone, Copy)]
+#[derive(Clone, Copy, PartialEq, Eq, Hash, Debug)]
 pub struct CalendarDate {
     pub date: u8,
     pub month: u8,

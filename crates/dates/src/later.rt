@@ -21,13 +21,14 @@ fn days_before(month: u32) -> u32
 
 impl CalendarDate {
     /// The number of the day, counted from 1 March 00 on.
+    #[tactic(auto, unfolding(crate::specs::Numbering::number))]
     fn number(self) -> u32
         ensures is { result ≡ number (date_of self) }
         ensures below { result < 36525 }
     {
-        let date = self.date as u32;
-        let month = self.month as u32;
-        let year = self.year as u32;
+        let date = u32::from(self.date);
+        let month = u32::from(self.month);
+        let year = u32::from(self.year);
         if month < 3 {
             1461 * ((year + 99) % 100) / 4 + days_before(month + 9) + (date - 1)
         } else {
@@ -36,6 +37,7 @@ impl CalendarDate {
     }
 
     /// The date of the day of that number.
+    #[tactic(auto, unfolding(crate::specs::Numbering::date_at))]
     fn at(number: u32) -> CalendarDate
         requires { number < 36525 }
         ensures { date_of result ≡ date_at number }

@@ -11,7 +11,7 @@ pub fn month_length(year: u8, month: u8) -> u8
     ensures { result ≡ month_length year month }
 {
     match month {
-        2 if year % 4 == 0 => 29,
+        2 if year.is_multiple_of(4) => 29,
         2 => 28,
         4 | 6 | 9 | 11 => 30,
         _ => 31,

@@ -1,53 +1,39 @@
 -- A line that reads as a request writes that request. Assumes nothing.
-use Rattle.std.proofs.Common.{◌≡◌, ℕ, zero, suc, ◌+◌, ◌-◌, ◌<◌, Bool, true, false, cond, List, [], ◌∷◌, ◌++◌, length, take, drop, Some, None, Ok, Err, Option, Result, sym, refl, ap, ◌∙◌, subst, arith}
-use Rattle.std.proofs.lemmas.List.{drop-drop, take-append-drop, length-take-le}
-use Rattle.std.proofs.lemmas.List.Sums.{prefix_len-le-length}
-use Rattle.std.proofs.lemmas.Bool.{eqb-false, eqb-true, not-false}
-use Rattle.std.specs.List.{prefix_len, AllByRecursion as All}
+use Rattle.std.proofs.Common.{◌≡◌, ℕ, zero, suc, ◌+◌, ◌-◌, ◌<◌, Bool, true, false, cond, not, List, [], ◌∷◌, ◌++◌, length, take, drop, Some, None, Ok, Err, Option, Result, sym, refl, ap, ◌∙◌, subst, ⊎_elim, arith}
+use Rattle.std.proofs.lemmas.List.{drop-drop, take-append-drop, length-take-le, get_or-take, drop_more, drop_all}
+use Rattle.std.proofs.lemmas.List.Folds.{length-prefix_len}
+use Rattle.std.proofs.lemmas.List.Sums.{prefix_len-le-length, prefix_len-drop_yes, prefix_len_passes, prefix_len_stops}
+use Rattle.std.proofs.lemmas.Bool.{cases_lt, eqb-false, eqb-true, not-false}
+use Rattle.std.specs.List.{prefix_len, AllPass}
 use Rattle.moveon.specs.declared.digits.CountFault.{CountFault}
-use Rattle.moveon.specs.declared.digits.CountFault.TheVariants as count-faults
-use Rattle.moveon.specs.declared.field.Field.{Field}
-use Rattle.moveon.specs.declared.line.LineFault.{LineFault}
+use Rattle.moveon.specs.declared.fault.LineFault.{LineFault}
 use Rattle.moveon.specs.declared.line.Request.{Request}
 use Rattle.moveon.specs.Digits.{hex_byte, count_in}
-use Rattle.moveon.specs.Fields.{blank, solid, past_blanks, past_solids, field_from, none, text_of, unended}
+use Rattle.moveon.specs.Fields.{Span, blank, solid, past_blanks, past_solids, field_from, none, text_of, unended}
 use Rattle.moveon.specs.Reading.{and_then, byte_read, count_read, byte_from, count_from, nothing_from, bytes_from, request_in, reading}
 use Rattle.moveon.specs.Written.{Blanks, Ended, Opens, Writes, Asks}
 
 -- the longest front that passes passes
-front_more : (p : ℕ → Bool) (b : ℕ) (bytes : List ℕ) → All (λ x. p x ≡ true) (take (prefix_len p bytes) bytes) → (t : Bool) → p b ≡ t → All (λ x. p x ≡ true) (take (cond t (1 + prefix_len p bytes) 0) (b ∷ bytes))
-front_more p b bytes front true e =
-    let one : suc (prefix_len p bytes) ≡ 1 + prefix_len p bytes = omega arith in
-    subst (λ n. All (λ x. p x ≡ true) (take n (b ∷ bytes))) one (e, front)
-front_more p b bytes front false e = tt
-
-front_passes : (p : ℕ → Bool) (bytes : List ℕ) → All (λ x. p x ≡ true) (take (prefix_len p bytes) bytes)
-front_passes p [] = tt
-front_passes p (b ∷ bytes) = front_more p b bytes (front_passes p bytes) (p b) refl
+front_passes : (p : ℕ → Bool) (bytes : List ℕ) → AllPass p (take (prefix_len p bytes) bytes)
+front_passes p bytes k d within =
+    let inside : k < prefix_len p bytes = omega (arith, length-prefix_len p bytes) in
+    rw get_or-take (prefix_len_passes p bytes k d inside)
 
 -- behind the longest run of solid bytes comes a blank, or nothing
-ends_more : (b : ℕ) (bytes : List ℕ) → Ended (drop (prefix_len solid bytes) bytes) → (t : Bool) → solid b ≡ t → Ended (drop (cond t (1 + prefix_len solid bytes) 0) (b ∷ bytes))
-ends_more b bytes ended true e =
-    let one : suc (prefix_len solid bytes) ≡ 1 + prefix_len solid bytes = omega arith in
-    subst (λ n. Ended (drop n (b ∷ bytes))) one ended
-ends_more b bytes ended false e = not-false (blank b) e
-
 field_ends : (bytes : List ℕ) → Ended (drop (prefix_len solid bytes) bytes)
-field_ends [] = tt
-field_ends (b ∷ bytes) = ends_more b bytes (field_ends bytes) (solid b) refl
+field_ends bytes =
+    ⊎_elim
+    (λ inside. rw (drop_more bytes (prefix_len solid bytes) 0 inside) (not-false _ (prefix_len_stops solid bytes 0 inside)))
+    (λ past. rw (drop_all (prefix_len solid bytes) bytes past) tt)
+    (cases_lt (prefix_len solid bytes) (length bytes))
 
 -- bytes with no run of solid ones behind the blanks are blank
-blanks_more : (b : ℕ) (bytes : List ℕ) → (prefix_len solid (drop (prefix_len blank bytes) bytes) ≡ 0 → Blanks bytes) → (t : Bool) → blank b ≡ t → prefix_len solid (drop (cond t (1 + prefix_len blank bytes) 0) (b ∷ bytes)) ≡ 0 → Blanks (b ∷ bytes)
-blanks_more b bytes others true e none_solid =
-    let one : 1 + prefix_len blank bytes ≡ suc (prefix_len blank bytes) = omega arith in
-    (e, others (subst (λ n. prefix_len solid (drop n (b ∷ bytes)) ≡ 0) one none_solid))
-blanks_more b bytes others false e none_solid =
-    let some : prefix_len solid (b ∷ bytes) ≡ 1 + prefix_len solid bytes = rw e refl in
-    absurd (omega arith)
-
 all_blanks : (bytes : List ℕ) → prefix_len solid (drop (prefix_len blank bytes) bytes) ≡ 0 → Blanks bytes
-all_blanks [] none_solid = tt
-all_blanks (b ∷ bytes) none_solid = blanks_more b bytes (all_blanks bytes) (blank b) refl none_solid
+all_blanks bytes none_solid k d within =
+    ⊎_elim
+    (λ inside. absurd (omega (arith, prefix_len-drop_yes solid bytes (prefix_len blank bytes) 0 inside (ap not (prefix_len_stops blank bytes 0 inside)))))
+    (λ past. prefix_len_passes blank bytes k d (omega arith))
+    (cases_lt (prefix_len blank bytes) (length bytes))
 
 -- a field that is not empty opens the line at its place
 opens : (line : List ℕ) (from : ℕ) → none (field_from line from) ≡ false → Opens (drop from line) (text_of line (field_from line from)) (drop (field_from line from).end line)
@@ -66,32 +52,26 @@ opens line from some =
           ∙ ap (λ l. take gap bytes ++ l) (drop-drop gap from line ∙ sym (take-append-drop run after) ∙ (λ i. take (sym long i) after ++ sym on i));
       blanks = front_passes blank bytes;
       some = subst (λ n. 0 < length (take n after)) (sym long) (omega (arith, length-take-le run after (prefix_len-le-length solid after), eqb-false start (past_solids line start) some));
-      solids = subst (λ n. All (λ b. solid b ≡ true) (take n after)) (sym long) (front_passes solid after);
+      solids = subst (λ n. AllPass solid (take n after)) (sym long) (front_passes solid after);
       ended = subst Ended (sym on) (field_ends after);
     }
 
 went_on : {X Y : Type 0} (r : Result X LineFault) (next : X → Result Y LineFault) (y : Y) → and_then r next ≡ Ok y → (x : X) × (r ≡ Ok x) × (next x ≡ Ok y)
 went_on (Ok x) next y e = (x, refl, e)
-went_on (Err fault) next y e = let z : ◌≡◌ {A = ℕ} 0 1 = cc in absurd (omega arith)
+went_on (Err fault) next y e = cc
 
-byte_was : (t : Bool) (fault : LineFault) (field : Field) (o : Option ℕ) (read : ℕ × ℕ) → cond t (Err fault) (byte_read field o) ≡ Ok read → (t ≡ false) × (o ≡ Some read.0) × (field.end ≡ read.1)
-byte_was true fault field o read e = let z : ◌≡◌ {A = ℕ} 0 1 = cc in absurd (omega arith)
-byte_was false fault field None read e = let z : ◌≡◌ {A = ℕ} 0 1 = cc in absurd (omega arith)
-byte_was false fault field (Some byte) read e =
-    let same : (byte, field.end) ≡ read = cc in
-    (refl, ap (λ p. Some p.0) same, ap (λ p. p.1) same)
+byte_was : (t : Bool) (fault : LineFault) (field : Span) (o : Option ℕ) (read : ℕ × ℕ) → cond t (Err fault) (byte_read field o) ≡ Ok read → (t ≡ false) × (o ≡ Some read.0) × (field.end ≡ read.1)
+byte_was true fault field o read e = cc
+byte_was false fault field None read e = cc
+byte_was false fault field (Some byte) read e = (refl, cc, cc)
 
-count_was : (t : Bool) (fault : LineFault) (field : Field) (o : Result ℕ CountFault) (read : ℕ × ℕ) → cond t (Err fault) (count_read field o) ≡ Ok read → (t ≡ false) × (o ≡ Ok read.0) × (field.end ≡ read.1)
-count_was true fault field o read e = let z : ◌≡◌ {A = ℕ} 0 1 = cc in absurd (omega arith)
-count_was false fault field (Err count-faults.NotDecimal) read e = let z : ◌≡◌ {A = ℕ} 0 1 = cc in absurd (omega arith)
-count_was false fault field (Err count-faults.TooLarge) read e = let z : ◌≡◌ {A = ℕ} 0 1 = cc in absurd (omega arith)
-count_was false fault field (Ok seconds) read e =
-    let same : (seconds, field.end) ≡ read = cc in
-    (refl, ap (λ p. Ok p.0) same, ap (λ p. p.1) same)
+count_was : (t : Bool) (fault : LineFault) (field : Span) (o : Result ℕ CountFault) (read : ℕ × ℕ) → cond t (Err fault) (count_read field o) ≡ Ok read → (t ≡ false) × (o ≡ Ok read.0) × (field.end ≡ read.1)
+count_was true fault field o read e = cc
+count_was false fault field (Err kind) read e = cc
+count_was false fault field (Ok seconds) read e = (refl, cc, cc)
 
 nothing_was : (t : Bool) (fault : LineFault) (u : Unit {0}) → ◌≡◌ {A = Result (Unit {0}) LineFault} (cond t (Ok tt) (Err fault)) (Ok u) → t ≡ true
-nothing_was true fault u e = refl
-nothing_was false fault u e = let z : ◌≡◌ {A = ℕ} 0 1 = cc in absurd (omega arith)
+nothing_was t fault u e = grind arith
 
 only_blanks : (line : List ℕ) (from : ℕ) → none (field_from line from) ≡ true → Blanks (drop from line)
 only_blanks line from empty =
@@ -130,17 +110,13 @@ request_written line request e =
     subst (λ q. (length q.locations ≡ 7) × Writes q.locations q.seconds line) same whole
 
 asked_something : (t : Bool) (r : Result Request LineFault) (request : Request) → ◌≡◌ {A = Result (Option Request) LineFault} (cond t (Ok None) (and_then r (λ q. Ok (Some q)))) (Ok (Some request)) → r ≡ Ok request
-asked_something true r request e = let z : ◌≡◌ {A = ℕ} 0 1 = cc in absurd (omega arith)
-asked_something false (Ok q) request e = cc
-asked_something false (Err fault) request e = let z : ◌≡◌ {A = ℕ} 0 1 = cc in absurd (omega arith)
+asked_something t r request e = grind arith
 
 pub read_is_written : (line : List ℕ) (request : Request) → reading line ≡ Ok (Some request) → Asks line request
 read_is_written line request e = request_written (unended line) request (asked_something (none (field_from (unended line) 0)) (request_in (unended line)) request e)
 
 asked_nothing : (t : Bool) (r : Result Request LineFault) → ◌≡◌ {A = Result (Option Request) LineFault} (cond t (Ok None) (and_then r (λ q. Ok (Some q)))) (Ok None) → t ≡ true
-asked_nothing true r e = refl
-asked_nothing false (Ok q) e = let z : ◌≡◌ {A = ℕ} 0 1 = cc in absurd (omega arith)
-asked_nothing false (Err fault) e = let z : ◌≡◌ {A = ℕ} 0 1 = cc in absurd (omega arith)
+asked_nothing t r e = grind arith
 
 pub passed_is_blank : (line : List ℕ) → reading line ≡ Ok None → Blanks (unended line)
 passed_is_blank line e = only_blanks (unended line) 0 (asked_nothing _ (request_in (unended line)) e)

@@ -1,4 +1,3 @@
 pub mod Accepted
-pub mod Capped
 pub mod Locations
 pub mod Spelled

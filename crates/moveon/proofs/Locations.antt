@@ -1,42 +1,41 @@
 -- The location bytes, one after the other. Assumes nothing.
-use Rattle.std.proofs.Common.{◌≡◌, ℕ, suc, ◌+◌, ◌-◌, ◌<◌, ◌≤◌, List, [], ◌∷◌, ◌++◌, Ok, Err, Result, sym, refl, ap, ◌∙◌, append_assoc, append-nil, arith}
-use Rattle.moveon.specs.declared.line.LineFault.{LineFault}
+use Rattle.std.proofs.Common.{◌≡◌, ℕ, suc, ◌+◌, ◌-◌, ◌<◌, ◌≤◌, List, [], ◌∷◌, ◌++◌, length, take, set, Ok, Err, Result, sym, refl, ap, ◌∙◌, append_assoc, append-nil, arith}
+use Rattle.std.proofs.lemmas.List.{take_all, take_more_set}
+use Rattle.moveon.specs.declared.fault.LineFault.{LineFault}
 use Rattle.moveon.specs.Reading.{and_then, byte_from, bytes_from}
 
 -- bytes that were read before the others
 abbrev pub behind : List ℕ → Result (List ℕ × ℕ) LineFault → Result (List ℕ × ℕ) LineFault
 behind front rest = and_then rest (λ others. Ok (front ++ others.0, others.1))
 
--- what the line reads as, where the first i bytes are front, and the last of them ends at place
+-- what the line reads as, where the first i of the bytes are read, and the last of them ends at place
 abbrev pub onward : List ℕ → ℕ → List ℕ → ℕ → Result (List ℕ × ℕ) LineFault
-onward line i front place = behind front (bytes_from (7 - i) line place)
+onward line i bytes place = behind (take i bytes) (bytes_from (7 - i) line place)
 
-pub nothing_read : (rest : Result (List ℕ × ℕ) LineFault) → behind [] rest ≡ rest
-nothing_read (Ok others) = refl
-nothing_read (Err fault) = refl
-
-module _ (line : List ℕ) (i : ℕ) (front : List ℕ) (place : ℕ) where
+module _ (line : List ℕ) (i : ℕ) (bytes : List ℕ) (place : ℕ) where
   one_left : i < 7 → bytes_from (7 - i) line place ≡ bytes_from (suc (7 - (i + 1))) line place
   one_left h = let e : 7 - i ≡ suc (7 - (i + 1)) = omega arith in ap (λ n. bytes_from n line place) e
 
   -- what a byte read at place, or a fault there, makes of the line
   abbrev from_first : Result (ℕ × ℕ) LineFault → Result (List ℕ × ℕ) LineFault
-  from_first r = behind front (and_then r (λ first. and_then (bytes_from (7 - (i + 1)) line first.1) (λ others. Ok (first.0 ∷ others.0, others.1))))
+  from_first r = behind (take i bytes) (and_then r (λ first. and_then (bytes_from (7 - (i + 1)) line first.1) (λ others. Ok (first.0 ∷ others.0, others.1))))
 
-  pub one_byte_more : (byte end : ℕ) → i < 7 → Ok (byte, end) ≡ byte_from line place → onward line (i + 1) (front ++ byte ∷ []) end ≡ onward line i front place
+  pub one_byte_more : (byte end : ℕ) → i < 7 → length bytes ≡ 7 → Ok (byte, end) ≡ byte_from line place → onward line (i + 1) (set bytes i byte) end ≡ onward line i bytes place
   unfolding bytes_from
-  one_byte_more byte end h e = sym (ap (behind front) (one_left h) ∙ ap from_first (sym e) ∙ moved (bytes_from (7 - (i + 1)) line end))
+  one_byte_more byte end h long e =
+      ap (λ front. behind front (bytes_from (7 - (i + 1)) line end)) (take_more_set bytes i byte (omega arith))
+      ∙ sym (ap (behind (take i bytes)) (one_left h) ∙ ap from_first (sym e) ∙ moved (bytes_from (7 - (i + 1)) line end))
     where
-      moved : (r : Result (List ℕ × ℕ) LineFault) → behind front (and_then r (λ others. Ok (byte ∷ others.0, others.1))) ≡ behind (front ++ byte ∷ []) r
-      moved (Ok others) = ap (λ l. Ok (l, others.1)) (sym (append_assoc front (byte ∷ []) others.0))
+      moved : (r : Result (List ℕ × ℕ) LineFault) → behind (take i bytes) (and_then r (λ others. Ok (byte ∷ others.0, others.1))) ≡ behind (take i bytes ++ byte ∷ []) r
+      moved (Ok others) = ap (λ l. Ok (l, others.1)) (sym (append_assoc (take i bytes) (byte ∷ []) others.0))
       moved (Err fault) = refl
 
-  pub no_byte_more : (fault : LineFault) → i < 7 → Err fault ≡ byte_from line place → Err fault ≡ onward line i front place
+  pub no_byte_more : (fault : LineFault) → i < 7 → Err fault ≡ byte_from line place → Err fault ≡ onward line i bytes place
   unfolding bytes_from
-  no_byte_more fault h e = sym (ap (behind front) (one_left h) ∙ ap from_first (sym e))
+  no_byte_more fault h e = sym (ap (behind (take i bytes)) (one_left h) ∙ ap from_first (sym e))
 
-  pub all_bytes : 7 ≤ i → Ok (front, place) ≡ onward line i front place
+  pub all_bytes : 7 ≤ i → length bytes ≡ 7 → Ok (bytes, place) ≡ onward line i bytes place
   unfolding bytes_from
-  all_bytes h =
+  all_bytes h long =
       let e : 7 - i ≡ 0 = omega arith in
-      sym (ap (λ n. behind front (bytes_from n line place)) e ∙ ap (λ l. Ok (l, place)) (append-nil front))
+      sym (ap (λ n. behind (take i bytes) (bytes_from n line place)) e ∙ ap (λ l. Ok (l, place)) (append-nil (take i bytes) ∙ take_all i bytes (omega arith)))

@@ -1,9 +1,10 @@
 -- A line that writes a request reads as that request. Assumes nothing.
 use Rattle.std.proofs.Common.{◌≡◌, ℕ, ◌+◌, ◌-◌, ◌<◌, Bool, true, false, not, eqb, List, [], ◌∷◌, ◌++◌, length, take, drop, Some, None, Ok, Result, sym, refl, ap, ◌∙◌, subst, arith}
 use Rattle.std.proofs.lemmas.List.{append-nil, drop_all, drop-drop, drop_at, take_at}
+use Rattle.std.proofs.lemmas.List.Elements.{All-tail}
 use Rattle.std.proofs.lemmas.Bool.{ne_eqb, eq-eqb, not-true, cond-true, cond-false}
-use Rattle.std.specs.List.{between, prefix_len, AllByRecursion as All}
-use Rattle.moveon.specs.declared.line.LineFault.{LineFault}
+use Rattle.std.specs.List.{between, prefix_len, AllPass}
+use Rattle.moveon.specs.declared.fault.LineFault.{LineFault}
 use Rattle.moveon.specs.declared.line.Request.{Request}
 use Rattle.moveon.specs.Digits.{hex_byte, count_in}
 use Rattle.moveon.specs.Fields.{blank, solid, past_blanks, past_solids, field_from, none, unended}
@@ -15,14 +16,16 @@ abbrev Stops : (ℕ → Bool) → List ℕ → Type 0
 Stops p [] = Unit {0}
 Stops p (b ∷ bs) = p b ≡ false
 
-leading_run : (p : ℕ → Bool) (run rest : List ℕ) → All (λ b. p b ≡ true) run → Stops p rest → prefix_len p (run ++ rest) ≡ length run
+leading_run : (p : ℕ → Bool) (run rest : List ℕ) → AllPass p run → Stops p rest → prefix_len p (run ++ rest) ≡ length run
 leading_run p [] [] all stops = refl
 leading_run p [] (b ∷ rest) all stops = rw stops refl
-leading_run p (b ∷ run) rest all stops = rw all.0 (omega (arith, leading_run p run rest all.1 stops))
+leading_run p (b ∷ run) rest all stops =
+    let first : p b ≡ true = all 0 b (omega arith) in
+    rw first (omega (arith, leading_run p run rest (All-tail (λ x. p x ≡ true) b run all) stops))
 
-field_stops_blanks : (text rest : List ℕ) → 0 < length text → All (λ b. solid b ≡ true) text → Stops blank (text ++ rest)
+field_stops_blanks : (text rest : List ℕ) → 0 < length text → AllPass solid text → Stops blank (text ++ rest)
 field_stops_blanks [] rest some solids = absurd (omega arith)
-field_stops_blanks (b ∷ text) rest some solids = not-true (blank b) solids.0
+field_stops_blanks (b ∷ text) rest some solids = not-true (blank b) (solids 0 0 some)
 
 ended_stops_field : (rest : List ℕ) → Ended rest → Stops solid rest
 ended_stops_field [] ended = tt

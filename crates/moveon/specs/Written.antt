@@ -1,13 +1,13 @@
 -- How a request is written: its bytes and its count in fields, one behind the other. Assumes nothing.
 use Rattle.std.specs.Prelude.{◌≡◌, ℕ, ◌<◌, true, List, [], ◌∷◌, ◌++◌, length, Some, None, Ok, Option, Result}
-use Rattle.std.specs.List.{AllByRecursion}
-use Rattle.moveon.specs.declared.line.LineFault.{LineFault}
+use Rattle.std.specs.List.{AllPass}
+use Rattle.moveon.specs.declared.fault.LineFault.{LineFault}
 use Rattle.moveon.specs.declared.line.Request.{Request}
 use Rattle.moveon.specs.Digits.{hex_byte, count_in}
 use Rattle.moveon.specs.Fields.{blank, solid, unended}
 
 abbrev pub Blanks : List ℕ → Type 0
-Blanks bytes = AllByRecursion (λ b. blank b ≡ true) bytes
+Blanks bytes = AllPass blank bytes
 
 -- a field ends at the line's end or at a blank
 abbrev pub Ended : List ℕ → Type 0
@@ -20,7 +20,7 @@ pub record Opens (line text rest : List ℕ) : Type 0 where
   pub cut : line ≡ gap ++ (text ++ rest)
   pub blanks : Blanks gap
   pub some : 0 < length text
-  pub solids : AllByRecursion (λ b. solid b ≡ true) text
+  pub solids : AllPass solid text
   pub ended : Ended rest
 
 -- the bytes as hex digits, then the count as decimal ones, and at most blanks behind it

@@ -1,51 +1,138 @@
 //! The fields of a line: its longest runs of bytes that are not blank.
-ghost use Rattle.std.specs.Prelude.{◌≡◌, ◌<◌, ◌≤◌, true, length, slice_index};
-ghost use Rattle.moveon.specs.Fields.{blank, solid, past_blanks, past_solids, field_from};
+ghost use Rattle.std.specs.Prelude.{◌≡◌, ◌-◌, ◌≤◌, ℕ, Bool, length};
+ghost use Rattle.std.specs.Iterator.{at_most};
+ghost use Rattle.std.specs.List.{prefix_len};
+ghost use Rattle.moveon.specs.Fields.{blank, Cursor, FindsNext};
+ghost use Rattle.moveon.specs.Reading.{byte_from, bytes_from, count_from, fault_past, nothing_from, Reads};
 
-/// Where a field stands, from its first byte to just past its last; empty, at the line's end,
-/// where the line has no more.
+use crate::digits::{count_in, hex_byte};
+use crate::fault::{LineFault, LineFaultKind};
+use std::marker::Model;
+
+/// What stands between two blanks, and at which column, counted from 1, it begins.
 #[derive(Clone, Copy)]
-pub struct Field {
-    pub start: usize,
-    pub end: usize,
+pub struct Field<'a> {
+    pub text: &'a [u8],
+    pub column: usize,
+}
+
+/// The fields of a line, one after the other; those before the place are read.
+#[derive(Drop)]
+pub struct Fields<'a> {
+    line: &'a [u8],
+    place: usize,
+}
+
+impl<'a> Model for Fields<'a> {
+    ghost Value = { Cursor };
+
+    ghost view = { λ fields. record { line = fields.line.now; place = fields.place } };
+
+    ghost invariant = { λ fields. fields.place ≤ length fields.line.now };
 }
 
 fn is_blank(byte: u8) -> bool
     ensures { result ≡ blank byte }
 {
-    byte == b' ' || byte == b'\t'
+    matches!(byte, b' ' | b'\t')
 }
 
-fn field_start(line: &[u8], from: usize) -> usize
-    ensures is { result ≡ past_blanks line.now from }
-    ensures within { (from ≤ result) × ((from ≤ length line.now → result ≤ length line.now)) }
-    ensures stops { result < length line.now → solid (slice_index line.now result) ≡ true }
+/// How many bytes at the front pass a test.
+fn run_length<F: Fn(u8) -> bool>(bytes: &[u8], passes: F) -> usize
+    requires { F.IsAlwaysCallable passes }
+    ensures is { (p : ℕ → Bool) → ((b : ℕ) (r : Bool) → F.post passes b r → r ≡ p b) → result ≡ prefix_len p bytes.now }
+    ensures within { result ≤ length bytes.now }
 {
-    let mut place = from;
-    while place < line.len() && is_blank(line[place]) {
-        place += 1;
+    bytes.iter().take_while(|byte| passes(**byte)).count()
+}
+
+impl<'a> Iterator for Fields<'a> {
+    type Item = Field<'a>;
+
+    ghost next_gives = { FindsNext };
+
+    ghost remaining = { λ fields. at_most (length fields.line - fields.place) };
+
+    fn next(&mut self) -> Option<Field<'a>> {
+        let start = self.place + run_length(&self.line[self.place..], is_blank);
+        let end = start + run_length(&self.line[start..], |byte| !is_blank(byte));
+        self.place = end;
+        if start == end {
+            return None;
+        }
+        Some(Field {
+            text: &self.line[start..end],
+            column: start + 1,
+        })
     }
-    place
 }
 
-fn field_end(line: &[u8], from: usize) -> usize
-    ensures is { result ≡ past_solids line.now from }
-    ensures within { (from ≤ result) × ((from ≤ length line.now → result ≤ length line.now)) }
-{
-    let mut place = from;
-    while place < line.len() && !is_blank(line[place]) {
-        place += 1;
+impl<'a> Fields<'a> {
+    /// All fields of a line.
+    pub fn new(line: &'a [u8]) -> Fields<'a>
+        ensures { result ≡ record { line = line.now; place = 0 } }
+    {
+        Fields { line, place: 0 }
     }
-    place
-}
 
-/// The first field from `from` on.
-pub fn field_from(line: &[u8], from: usize) -> Field
-    ensures is { result ≡ field_from line.now from }
-    ensures within { (result.start ≤ result.end) × ((from ≤ length line.now → result.end ≤ length line.now)) }
-    ensures at_end { from ≤ length line.now → result.start ≡ result.end → result.start ≡ length line.now }
-{
-    let start = field_start(line, from);
-    let end = field_end(line, start);
-    Field { start, end }
+    /// The fault that a field is missing, at the line's end.
+    fn missing(&self, kind: LineFaultKind) -> LineFault
+        ensures { result ≡ fault_past self.now.line kind }
+    {
+        LineFault {
+            column: self.line.len() + 1,
+            kind,
+        }
+    }
+
+    /// The byte of the next field.
+    fn next_byte(&mut self) -> Result<u8, LineFault>
+        ensures { Reads byte_from self.old self.new result }
+    {
+        let Some(Field { text, column }) = self.next() else {
+            return Err(self.missing(LineFaultKind::MissingByte));
+        };
+        hex_byte(text).ok_or(LineFault {
+            column,
+            kind: LineFaultKind::NotHexByte,
+        })
+    }
+
+    /// The bytes of the next seven fields.
+    #[tactic(auto, using(crate::proofs::Locations::one_byte_more, crate::proofs::Locations::all_bytes))]
+    pub fn next_bytes(&mut self) -> Result<[u8; 7], LineFault>
+        ensures { Reads (bytes_from 7) self.old self.new result }
+    {
+        let mut bytes = [0; 7];
+        for byte in bytes.iter_mut() {
+            *byte = self.next_byte()?;
+        }
+        Ok(bytes)
+    }
+
+    /// The count of the next field.
+    pub fn next_count(&mut self) -> Result<u32, LineFault>
+        ensures { Reads count_from self.old self.new result }
+    {
+        let Some(Field { text, column }) = self.next() else {
+            return Err(self.missing(LineFaultKind::MissingCount));
+        };
+        count_in(text).map_err(|fault| LineFault {
+            column,
+            kind: LineFaultKind::Count(fault),
+        })
+    }
+
+    /// Refuses a field more.
+    pub fn nothing_more(&mut self) -> Result<(), LineFault>
+        ensures { result ≡ nothing_from self.old.line self.old.place }
+    {
+        match self.next() {
+            None => Ok(()),
+            Some(Field { column, .. }) => Err(LineFault {
+                column,
+                kind: LineFaultKind::AfterCount,
+            }),
+        }
+    }
 }

@@ -4,15 +4,18 @@
 
 mod answer;
 mod digits;
+mod fault;
 mod field;
 mod line;
 mod report;
 
 use answer::answer_to;
+use outcome::exit_code;
 use report::Report;
 use std::io::{BufRead, BufReader, BufWriter, Write};
 use std::process::ExitCode;
-use std::{env, fmt, io};
+use std::{env, io};
+use thiserror::Error;
 
 const HELP: &str = "moveon: moves a clock on by a number of seconds.
 
@@ -26,25 +29,12 @@ line that makes no date or cannot be read it prints why, and where, and goes on.
 ";
 
 /// Why the program ends with status 1.
-#[derive(Drop)]
+#[derive(Debug, Drop, Error)]
 enum Failure {
+    #[error("unknown argument {0}; try --help")]
     Argument(String),
-    Io(io::Error),
-}
-
-impl fmt::Display for Failure {
-    fn fmt<W: fmt::Write>(&self, f: &mut fmt::Formatter<W>) -> fmt::Result {
-        match self {
-            Failure::Argument(argument) => write!(f, "unknown argument {argument}; try --help"),
-            Failure::Io(error) => write!(f, "{error}"),
-        }
-    }
-}
-
-impl From<io::Error> for Failure {
-    fn from(error: io::Error) -> Failure {
-        Failure::Io(error)
-    }
+    #[error(transparent)]
+    Io(#[from] io::Error),
 }
 
 /// Answers each line of the input.
@@ -61,7 +51,7 @@ fn answer_all(rt: &HostRuntime) -> io::Result<()> {
         if input.read_until(b'\n', &mut line)? == 0 {
             break;
         }
-        if let Some(answer) = answer_to(line.as_slice()) {
+        if let Some(answer) = answer_to(&line).transpose() {
             let report = Report { number, answer };
             writeln!(output, "{report}")?;
         }
@@ -72,22 +62,12 @@ fn answer_all(rt: &HostRuntime) -> io::Result<()> {
 fn run(rt: &HostRuntime) -> Result<(), Failure> {
     match env::args(rt)?.nth(1) {
         None => answer_all(rt)?,
-        Some(argument) => {
-            if argument.as_str() != "--help" && argument.as_str() != "-h" {
-                return Err(Failure::Argument(argument));
-            }
-            rt.print(HELP)?;
-        }
+        Some(argument) if matches!(argument.as_str(), "--help" | "-h") => rt.print(HELP)?,
+        Some(argument) => return Err(Failure::Argument(argument)),
     }
     Ok(())
 }
 
 fn main(rt: HostRuntime) -> ExitCode {
-    match run(&rt) {
-        Ok(()) => ExitCode::SUCCESS,
-        Err(failure) => {
-            let _ = eprintln!(rt; "moveon: {failure}");
-            ExitCode::FAILURE
-        }
-    }
+    exit_code(&rt, "moveon", run(&rt))
 }

@@ -2,21 +2,21 @@
 ghost use Rattle.std.specs.Prelude.{◌≡◌};
 ghost use Rattle.moveon.specs.Names.{month_named, location_named};
 
-use crate::answer::Answer;
-use crate::line::LineFault;
+use crate::answer::{Moved, NotMoved};
 use calendar::counters::Counters;
+use calendar::location::Location;
 use std::fmt;
 
 /// The answer to the line of this number, counted from 1.
 #[derive(Clone, Copy)]
 pub struct Report {
     pub number: u64,
-    pub answer: Answer,
+    pub answer: Result<Moved, NotMoved>,
 }
 
 /// A time as the report shows it.
 #[derive(Clone, Copy)]
-struct Moment(Counters);
+struct Moment<'a>(&'a Counters);
 
 fn month_name(month: u8) -> &'static str
     ensures { result.now ≡ month_named month }
@@ -37,21 +37,21 @@ fn month_name(month: u8) -> &'static str
     }
 }
 
-fn location_name(location: u8) -> &'static str
+fn location_name(location: Location) -> &'static str
     ensures { result.now ≡ location_named location }
 {
     match location {
-        9 => "seconds",
-        10 => "minutes",
-        11 => "hours",
-        12 => "day",
-        13 => "date",
-        14 => "month",
-        _ => "year",
+        Location::Seconds => "seconds",
+        Location::Minutes => "minutes",
+        Location::Hours => "hours",
+        Location::Day => "day",
+        Location::Date => "date",
+        Location::Month => "month",
+        Location::Year => "year",
     }
 }
 
-impl fmt::Display for Moment {
+impl fmt::Display for Moment<'_> {
     fn fmt<W: fmt::Write>(&self, f: &mut fmt::Formatter<W>) -> fmt::Result {
         let time = self.0;
         let (second, minute, hour, day) = (time.second, time.minute, time.hour, time.day);
@@ -64,43 +64,27 @@ impl fmt::Display for Moment {
     }
 }
 
-impl fmt::Display for LineFault {
-    fn fmt<W: fmt::Write>(&self, f: &mut fmt::Formatter<W>) -> fmt::Result {
-        let (column, words) = match *self {
-            LineFault::MissingByte { column } => (column, "a location byte is missing"),
-            LineFault::NotHexByte { column } => (column, "expected two hex digits"),
-            LineFault::MissingCount { column } => (column, "the count of seconds is missing"),
-            LineFault::NotDecimal { column } => (column, "expected a decimal count of seconds"),
-            LineFault::CountTooLarge { column } => (column, "the count is above 4294967295"),
-            LineFault::AfterCount { column } => (column, "nothing may follow the count"),
-        };
-        write!(f, "column {column}: {words}")
-    }
-}
-
 impl fmt::Display for Report {
     fn fmt<W: fmt::Write>(&self, f: &mut fmt::Formatter<W>) -> fmt::Result {
         let number = self.number;
-        match self.answer {
-            Answer::Moved {
-                before,
-                seconds,
-                after,
-            } => {
-                let before = Moment(before);
-                let after = Moment(after);
-                write!(f, "{before}, + {seconds} s -> {after}")
-            }
-            Answer::Refused(fault) => {
+        match &self.answer {
+            Ok(moved) => write!(
+                f,
+                "{}, + {} s -> {}",
+                Moment(&moved.before),
+                moved.seconds,
+                Moment(&moved.after)
+            ),
+            Err(NotMoved::NoDate(fault)) => {
                 let refusal = fault.number();
-                let location = fault.location;
-                let name = location_name(location);
+                let location = fault.location.number();
+                let name = location_name(fault.location);
                 write!(
                     f,
                     "line {number}: refused with {refusal}: location {location} ({name}) makes no date"
                 )
             }
-            Answer::Unreadable(fault) => write!(f, "line {number}, {fault}"),
+            Err(NotMoved::Unreadable(fault)) => write!(f, "line {number}, {fault}"),
         }
     }
 }
