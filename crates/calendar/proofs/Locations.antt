@@ -12,9 +12,9 @@ use Rattle.dates.proofs.Lengths.{month_length_most}
 use Rattle.calendar.proofs.Digits.{shown_again, read_again}
 
 -- the first n values of f
-abbrev row : ℕ → (ℕ → ℕ) → List ℕ
-row zero f = []
-row (suc n) f = f zero ∷ row n (λ i. f (suc i))
+abbrev values : ℕ → (ℕ → ℕ) → List ℕ
+values zero f = []
+values (suc n) f = f zero ∷ values n (λ i. f (suc i))
 
 -- a statement holds of each of these locations
 abbrev pub Each : List Location → (Location → Type 0) → Type 0
@@ -53,7 +53,7 @@ reads_back t e bytes =
     (record { second = s.1 i; minute = n.1 i; hour = h.1 i; day = w.1 i; date = on i })
 
 -- a list of seven, spelled out
-spelled : (n : ℕ) (xs : List ℕ) → length xs ≡ n → xs ≡ row n (λ i. get_or xs i 0)
+spelled : (n : ℕ) (xs : List ℕ) → length xs ≡ n → xs ≡ values n (λ i. get_or xs i 0)
 spelled zero [] p = refl
 spelled zero (x ∷ xs) p = absurd (omega arith)
 spelled (suc n) [] p = absurd (omega arith)

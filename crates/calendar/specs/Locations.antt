@@ -5,44 +5,33 @@ use Rattle.bcd.specs.Digits.{digits, written}
 use Rattle.calendar.specs.declared.location.Location.{Location}
 use Rattle.calendar.specs.declared.location.Location.TheVariants.{Seconds, Minutes, Hours, Day, Date, Month, Year}
 
--- the number of its register
+-- A row of the table: the number of the register, the bits that hold its digits, the lowest and the highest number that it counts.
+pub record Row : Type 0 where
+  pub number : ℕ
+  pub mask : ℕ
+  pub low : ℕ
+  pub high : ℕ
+
+abbrev pub row : Location → Row
+row Seconds = record { number = 9; mask = 127; low = 0; high = 59 }
+row Minutes = record { number = 10; mask = 127; low = 0; high = 59 }
+row Hours = record { number = 11; mask = 63; low = 0; high = 23 }
+row Day = record { number = 12; mask = 7; low = 1; high = 7 }
+row Date = record { number = 13; mask = 63; low = 1; high = 31 }
+row Month = record { number = 14; mask = 31; low = 1; high = 12 }
+row Year = record { number = 15; mask = 255; low = 0; high = 99 }
+
 abbrev pub number : Location → ℕ
-number Seconds = 9
-number Minutes = 10
-number Hours = 11
-number Day = 12
-number Date = 13
-number Month = 14
-number Year = 15
+number l = (row l).number
 
--- the bits that hold its digits
 abbrev pub mask : Location → ℕ
-mask Seconds = 127
-mask Minutes = 127
-mask Hours = 63
-mask Day = 7
-mask Date = 63
-mask Month = 31
-mask Year = 255
+mask l = (row l).mask
 
--- the lowest and the highest number that it counts
 abbrev pub low : Location → ℕ
-low Seconds = 0
-low Minutes = 0
-low Hours = 0
-low Day = 1
-low Date = 1
-low Month = 1
-low Year = 0
+low l = (row l).low
 
 abbrev pub high : Location → ℕ
-high Seconds = 59
-high Minutes = 59
-high Hours = 23
-high Day = 7
-high Date = 31
-high Month = 12
-high Year = 99
+high l = (row l).high
 
 -- all of them, the lowest register first
 abbrev pub table : List Location

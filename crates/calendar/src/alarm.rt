@@ -93,16 +93,11 @@ impl Alarm {
     pub fn matches(&self, counters: &Counters) -> bool
         ensures { result ≡ matches self.now.bytes (time_of counters.now) }
     {
-        let AlarmBytes {
-            second,
-            minute,
-            hour,
-            date,
-        } = self.by_location();
-        date.hears(counters.date.date)
-            && hour.hears(counters.hour)
-            && minute.hears(counters.minute)
-            && second.hears(counters.second)
+        let alarm = self.by_location();
+        alarm.date.hears(counters.date.date)
+            && alarm.hour.hears(counters.hour)
+            && alarm.minute.hears(counters.minute)
+            && alarm.second.hears(counters.second)
     }
 
     /// Whether any time at all matches.
@@ -111,12 +106,10 @@ impl Alarm {
         ensures some { result ≡ true → Matchable self.now.bytes }
         ensures all { Matchable self.now.bytes → result ≡ true }
     {
-        let AlarmBytes {
-            second,
-            minute,
-            hour,
-            date,
-        } = self.by_location();
-        date.can_hear() && hour.can_hear() && minute.can_hear() && second.can_hear()
+        let alarm = self.by_location();
+        alarm.date.can_hear()
+            && alarm.hour.can_hear()
+            && alarm.minute.can_hear()
+            && alarm.second.can_hear()
     }
 }
