@@ -53,11 +53,12 @@ enum Failure {
 
 /// The control bytes among the arguments that are left.
 fn controls_in(rt: &HostRuntime, args: Args) -> Result<Vec<u8>, Failure> {
-    let controls: Vec<u8> = args
-        .map(|text| {
-            u8::from_str_radix(text.as_str(), 16).map_err(|_| Failure::NotControl(text))
-        })
-        .try_collect(rt.alloc())?;
+    let mut controls = Vec::new(rt.alloc());
+    for text in args {
+        let control = u8::from_str_radix(text.as_str(), 16).map_err(|_| Failure::NotControl(text))?;
+        // A room that is refused is not asked for again, as a `try_collect` would.
+        controls.push(control)?;
+    }
     if controls.is_empty() {
         return Err(Failure::MissingControl);
     }

@@ -52,10 +52,13 @@ enum Failure {
 
 /// The numbers that the arguments write.
 fn numbers(rt: &HostRuntime) -> Result<Vec<u64>, Failure> {
-    env::args(rt)?
-        .skip(1)
-        .map(|argument| hex_number(&argument).ok_or(Failure::NotNumber(argument)))
-        .try_collect(rt.alloc())
+    let mut numbers = Vec::new(rt.alloc());
+    for argument in env::args(rt)?.skip(1) {
+        let number = hex_number(&argument).ok_or(Failure::NotNumber(argument))?;
+        // A room that is refused is not asked for again, as a `try_collect` would.
+        numbers.push(number)?;
+    }
+    Ok(numbers)
 }
 
 fn print_bytes(rt: &HostRuntime, label: &str, bytes: &[u8]) -> io::Result<()> {

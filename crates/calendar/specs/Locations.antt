@@ -1,7 +1,7 @@
 -- The seven clock locations, and the digits in them.
 -- Assumes nothing.
 use Rattle.std.specs.Prelude.{ℕ, ◌-◌, ◌/◌, ◌%◌, Bool, ◌&&◌, List, [], ◌∷◌, bit_and, bit_or, nat_le}
-use Rattle.bcd.specs.Digits.{digits, written}
+pub use Rattle.bcd.specs.Digits.{digits, written}
 use Rattle.calendar.specs.declared.location.Location.{Location}
 use Rattle.calendar.specs.declared.location.Location.TheVariants.{Seconds, Minutes, Hours, Day, Date, Month, Year}
 

@@ -14,7 +14,7 @@ use Rattle.dates.specs.Dates.{Date, Between, month_length}
 -- What a location counts that holds this byte, or the fault at it.
 abbrev pub Counts : Location → ℕ → Result ℕ CalendarFault → Type 0
 Counts l byte (Ok n) = (stands l byte ≡ true) × ((n ≡ value l byte) × Between (low l) (high l) n)
-Counts l byte (Err fault) = (stands l byte ≡ false) × (fault ≡ record { location = l })
+Counts l byte (Err fault) = (stands l byte ≡ false) × (fault ≡ record { location = number l })
 
 -- the byte of a location among the seven of registers 9 to 15
 abbrev pub byte_at : List ℕ → Location → ℕ
@@ -57,7 +57,7 @@ fault_in bytes = or_else (lowest_fault table bytes) (lacking (date_in bytes))
 
 abbrev pub unless : Option Location → Time → Result Time CalendarFault
 unless None t = Ok t
-unless (Some k) t = Err (record { location = k })
+unless (Some l) t = Err (record { location = number l })
 
 -- The time that seven bytes are, or the location at fault.
 abbrev pub reading : List ℕ → Result Time CalendarFault

@@ -3,12 +3,10 @@
 ghost use Rattle.calendar.specs.Refusals.{refusal};
 ghost use Rattle.std.specs.Prelude.{◌≡◌};
 
-use crate::location::Location;
-
-/// The seven locations are no date; `location` is the one at fault.
+/// The seven locations are no date; `location` is the number of the one at fault.
 #[derive(Clone, Copy, PartialEq, Eq, Hash, Debug)]
 pub struct CalendarFault {
-    pub location: Location,
+    pub location: u8,
 }
 
 impl CalendarFault {

@@ -19,6 +19,17 @@ pub enum Location {
     Year = 15,
 }
 
+/// All of them, the lowest register first.
+pub const LOCATIONS: [Location; 7] = [
+    Location::Seconds,
+    Location::Minutes,
+    Location::Hours,
+    Location::Day,
+    Location::Date,
+    Location::Month,
+    Location::Year,
+];
+
 impl Location {
     /// The number of its register.
     pub fn number(self) -> u8
@@ -68,7 +79,9 @@ impl Location {
     pub(crate) fn value(self, byte: u8) -> Result<u8, CalendarFault>
         ensures { Counts self byte result }
     {
-        let fault = CalendarFault { location: self };
+        let fault = CalendarFault {
+            location: self.number(),
+        };
         let number = TwoDigits::written_in(byte & self.mask())
             .ok_or(fault)?
             .number;

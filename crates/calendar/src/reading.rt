@@ -26,7 +26,7 @@ impl Counters {
         let year = Location::Year.value(year)?;
         if date > month_length(year, month) {
             return Err(CalendarFault {
-                location: Location::Date,
+                location: Location::Date.number(),
             });
         }
         let date = CalendarDate { date, month, year };

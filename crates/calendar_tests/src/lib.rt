@@ -6,6 +6,8 @@
 mod tests {
     use calendar::alarm::Alarm;
     use calendar::counters::Counters;
+    use calendar::fault::CalendarFault;
+    use calendar::location::LOCATIONS;
     use std::test::Fail;
 
     // The first later match within 61 days, by going on second by second.
@@ -76,6 +78,14 @@ mod tests {
     }
 
     #[test]
+    fn seven_locations_in_their_order(rt: HostRuntime) -> Result<(), Fail> {
+        for (location, register) in LOCATIONS.iter().zip(9..16) {
+            assert_eq!(rt; location.number(), register);
+        }
+        Ok(())
+    }
+
+    #[test]
     fn lowest_location_at_fault_is_told(rt: HostRuntime) -> Result<(), Fail> {
         let cases = [
             ([0x60, 0x00, 0x24, 0x00, 0x00, 0x00, 0xaa], 9),
@@ -91,7 +101,7 @@ mod tests {
         for (bytes, location) in cases {
             match Counters::from_locations(&bytes) {
                 Ok(_) => return Err(Fail::new("bytes that are no date were taken")),
-                Err(fault) => assert_eq!(rt; fault.location.number(), location),
+                Err(fault) => assert_eq!(rt; fault, CalendarFault { location }),
             }
         }
         Ok(())

@@ -1,8 +1,9 @@
 -- The location bytes, one after the other. Assumes nothing.
-use Rattle.std.proofs.Common.{◌≡◌, ℕ, suc, ◌+◌, ◌-◌, ◌<◌, ◌≤◌, List, [], ◌∷◌, ◌++◌, length, take, set, Ok, Err, Result, sym, refl, ap, ◌∙◌, append_assoc, append-nil, arith}
+use Rattle.std.proofs.Common.{◌≡◌, ℕ, suc, ◌+◌, ◌-◌, ◌<◌, ◌≤◌, List, [], ◌∷◌, ◌++◌, length, take, set, Ok, Err, Result, sym, refl, ap, ◌∙◌, append_assoc, append-nil, arith, if◌then◌else◌, is_ok}
 use Rattle.std.proofs.lemmas.List.{take_all, take_more_set}
 use Rattle.moveon.specs.declared.fault.LineFault.{LineFault}
-use Rattle.moveon.specs.Reading.{and_then, byte_from, bytes_from}
+use Rattle.moveon.specs.Fields.{field_from}
+use Rattle.moveon.specs.Reading.{and_then, byte_from, bytes_from, bytes_end}
 
 -- bytes that were read before the others
 abbrev pub behind : List ℕ → Result (List ℕ × ℕ) LineFault → Result (List ℕ × ℕ) LineFault
@@ -33,6 +34,26 @@ module _ (line : List ℕ) (i : ℕ) (bytes : List ℕ) (place : ℕ) where
   pub no_byte_more : (fault : LineFault) → i < 7 → Err fault ≡ byte_from line place → Err fault ≡ onward line i bytes place
   unfolding bytes_from
   no_byte_more fault h e = sym (ap (behind (take i bytes)) (one_left h) ∙ ap from_first (sym e))
+
+  -- past a byte that was read, the others go on
+  pub goes_further : (byte end : ℕ) → i < 7 → Ok (byte, end) ≡ byte_from line place
+      → bytes_end (7 - (i + 1)) line (field_from line place).end ≡ bytes_end (7 - i) line place
+  unfolding bytes_end
+  goes_further byte end h e =
+      let n : 7 - i ≡ suc (7 - (i + 1)) = omega arith in
+      sym (ap (λ m. bytes_end m line place) n ∙ ap (λ r. if is_ok r then bytes_end (7 - (i + 1)) line (field_from line place).end else (field_from line place).end) (sym e))
+
+  -- past a fault nothing is read
+  pub stops_there : (fault : LineFault) → i < 7 → Err fault ≡ byte_from line place → (field_from line place).end ≡ bytes_end (7 - i) line place
+  unfolding bytes_end
+  stops_there fault h e =
+      let n : 7 - i ≡ suc (7 - (i + 1)) = omega arith in
+      sym (ap (λ m. bytes_end m line place) n ∙ ap (λ r. if is_ok r then bytes_end (7 - (i + 1)) line (field_from line place).end else (field_from line place).end) (sym e))
+
+  -- past all seven it stops
+  pub all_past : 7 ≤ i → place ≡ bytes_end (7 - i) line place
+  unfolding bytes_end
+  all_past h = let e : 7 - i ≡ 0 = omega arith in sym (ap (λ n. bytes_end n line place) e)
 
   pub all_bytes : 7 ≤ i → length bytes ≡ 7 → Ok (bytes, place) ≡ onward line i bytes place
   unfolding bytes_from

@@ -49,10 +49,14 @@ abbrev pub Finds : List ℕ → Span → Option Field → Type 0
 Finds line span None = none span ≡ true
 Finds line span (Some field) = (none span ≡ false) × (field.text.now ≡ text_of line span) × (field.column ≡ column span)
 
+-- a cursor just past the next field
+abbrev pub past_field : Cursor → Cursor
+past_field cursor = record cursor { place = (field_from cursor.line cursor.place).end }
+
 -- the next field from a cursor on, and the cursor just past it
 pub record FindsNext (old : Cursor) (found : Option Field) (new : Cursor) : Type 0 where
   pub is : Finds old.line (field_from old.line old.place) found
-  pub after : new ≡ record old { place = (field_from old.line old.place).end }
+  pub after : new ≡ past_field old
 
 -- bytes without the last, where that is b
 abbrev pub without_last : ℕ → List ℕ → List ℕ

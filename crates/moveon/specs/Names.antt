@@ -1,7 +1,5 @@
 -- The names of months and locations. Assumes nothing.
 use Rattle.std.specs.Prelude.{ℕ, if◌then◌else◌, List, codes, ◌==◌}
-use Rattle.calendar.specs.declared.location.Location.{Location}
-use Rattle.calendar.specs.declared.location.Location.TheVariants.{Seconds, Minutes, Hours, Day, Date, Month, Year}
 
 abbrev pub month_named : ℕ → List ℕ
 month_named month =
@@ -18,11 +16,12 @@ month_named month =
     else (if month == 11 then codes "Nov"
     else codes "Dec"))))))))))
 
-abbrev pub location_named : Location → List ℕ
-location_named Seconds = codes "seconds"
-location_named Minutes = codes "minutes"
-location_named Hours = codes "hours"
-location_named Day = codes "day"
-location_named Date = codes "date"
-location_named Month = codes "month"
-location_named Year = codes "year"
+abbrev pub location_named : ℕ → List ℕ
+location_named location =
+    if location == 9 then codes "seconds"
+    else (if location == 10 then codes "minutes"
+    else (if location == 11 then codes "hours"
+    else (if location == 12 then codes "day"
+    else (if location == 13 then codes "date"
+    else (if location == 14 then codes "month"
+    else codes "year")))))

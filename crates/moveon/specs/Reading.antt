@@ -1,5 +1,5 @@
 -- What a line asks, and what is told of one that cannot be read. Assumes nothing.
-use Rattle.std.specs.Prelude.{◌≡◌, ℕ, zero, suc, ◌+◌, if◌then◌else◌, List, [], ◌∷◌, length, Some, None, Ok, Err, Option, Result}
+use Rattle.std.specs.Prelude.{◌≡◌, ℕ, zero, suc, ◌+◌, if◌then◌else◌, List, [], ◌∷◌, length, Some, None, Ok, Err, Option, Result, is_ok}
 use Rattle.moveon.specs.declared.digits.CountFault.{CountFault}
 use Rattle.moveon.specs.declared.fault.LineFault.{LineFault}
 use Rattle.moveon.specs.declared.fault.LineFaultKind.{LineFaultKind}
@@ -55,6 +55,17 @@ bytes_from (suc n) line from =
     and_then (byte_from line from) (λ first.
     and_then (bytes_from n line first.1) (λ others.
     Ok (first.0 ∷ others.0, others.1)))
+
+-- where reading n bytes stops: past the last of their fields, or past the first that writes no byte
+unfoldable pub bytes_end : ℕ → List ℕ → ℕ → ℕ
+bytes_end zero line from = from
+bytes_end (suc n) line from =
+    let end : ℕ = (field_from line from).end in
+    if is_ok (byte_from line from) then bytes_end n line end else end
+
+-- a cursor where reading n bytes stops
+abbrev pub past_bytes : ℕ → Cursor → Cursor
+past_bytes n cursor = record cursor { place = bytes_end n cursor.line cursor.place }
 
 -- what was read is what the line reads as from the old place to the new one, or the fault there, and the line stays
 pub record Reads {X : Type 0} (reading_from : List ℕ → ℕ → Result (X × ℕ) LineFault) (old new : Cursor) (result : Result X LineFault) : Type 0 where

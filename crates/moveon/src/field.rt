@@ -2,8 +2,8 @@
 ghost use Rattle.std.specs.Prelude.{◌≡◌, ◌-◌, ◌≤◌, ℕ, Bool, length};
 ghost use Rattle.std.specs.Iterator.{at_most};
 ghost use Rattle.std.specs.List.{prefix_len};
-ghost use Rattle.moveon.specs.Fields.{blank, Cursor, FindsNext};
-ghost use Rattle.moveon.specs.Reading.{byte_from, bytes_from, count_from, fault_past, nothing_from, Reads};
+ghost use Rattle.moveon.specs.Fields.{blank, past_field, Cursor, FindsNext};
+ghost use Rattle.moveon.specs.Reading.{byte_from, bytes_from, count_from, fault_past, nothing_from, past_bytes, Reads};
 
 use crate::digits::{count_in, hex_byte};
 use crate::fault::{LineFault, LineFaultKind};
@@ -87,7 +87,8 @@ impl<'a> Fields<'a> {
 
     /// The byte of the next field.
     fn next_byte(&mut self) -> Result<u8, LineFault>
-        ensures { Reads byte_from self.old self.new result }
+        ensures reads { Reads byte_from self.old self.new result }
+        ensures past { self.new ≡ past_field self.old }
     {
         let Some(Field { text, column }) = self.next() else {
             return Err(self.missing(LineFaultKind::MissingByte));
@@ -99,9 +100,10 @@ impl<'a> Fields<'a> {
     }
 
     /// The bytes of the next seven fields.
-    #[tactic(auto, using(crate::proofs::Locations::one_byte_more, crate::proofs::Locations::all_bytes))]
+    #[tactic(auto, using(crate::proofs::Locations::one_byte_more, crate::proofs::Locations::all_bytes, crate::proofs::Locations::goes_further, crate::proofs::Locations::stops_there))]
     pub fn next_bytes(&mut self) -> Result<[u8; 7], LineFault>
-        ensures { Reads (bytes_from 7) self.old self.new result }
+        ensures reads { Reads (bytes_from 7) self.old self.new result }
+        ensures past { self.new ≡ past_bytes 7 self.old }
     {
         let mut bytes = [0; 7];
         for byte in bytes.iter_mut() {
@@ -112,7 +114,8 @@ impl<'a> Fields<'a> {
 
     /// The count of the next field.
     pub fn next_count(&mut self) -> Result<u32, LineFault>
-        ensures { Reads count_from self.old self.new result }
+        ensures reads { Reads count_from self.old self.new result }
+        ensures past { self.new ≡ past_field self.old }
     {
         let Some(Field { text, column }) = self.next() else {
             return Err(self.missing(LineFaultKind::MissingCount));
@@ -125,7 +128,8 @@ impl<'a> Fields<'a> {
 
     /// Refuses a field more.
     pub fn nothing_more(&mut self) -> Result<(), LineFault>
-        ensures { result ≡ nothing_from self.old.line self.old.place }
+        ensures is { result ≡ nothing_from self.old.line self.old.place }
+        ensures past { self.new ≡ past_field self.old }
     {
         match self.next() {
             None => Ok(()),

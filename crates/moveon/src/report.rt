@@ -4,7 +4,6 @@ ghost use Rattle.moveon.specs.Names.{month_named, location_named};
 
 use crate::answer::{Moved, NotMoved};
 use calendar::counters::Counters;
-use calendar::location::Location;
 use std::fmt;
 
 /// The answer to the line of this number, counted from 1.
@@ -37,17 +36,17 @@ fn month_name(month: u8) -> &'static str
     }
 }
 
-fn location_name(location: Location) -> &'static str
+fn location_name(location: u8) -> &'static str
     ensures { result.now ≡ location_named location }
 {
     match location {
-        Location::Seconds => "seconds",
-        Location::Minutes => "minutes",
-        Location::Hours => "hours",
-        Location::Day => "day",
-        Location::Date => "date",
-        Location::Month => "month",
-        Location::Year => "year",
+        9 => "seconds",
+        10 => "minutes",
+        11 => "hours",
+        12 => "day",
+        13 => "date",
+        14 => "month",
+        _ => "year",
     }
 }
 
@@ -77,8 +76,8 @@ impl fmt::Display for Report {
             ),
             Err(NotMoved::NoDate(fault)) => {
                 let refusal = fault.number();
-                let location = fault.location.number();
-                let name = location_name(fault.location);
+                let location = fault.location;
+                let name = location_name(location);
                 write!(
                     f,
                     "line {number}: refused with {refusal}: location {location} ({name}) makes no date"

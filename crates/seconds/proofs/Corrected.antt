@@ -1,6 +1,6 @@
 -- The laws of which seconds are corrected, and how many: all that other proofs know of the rule.
 -- Assumes nothing.
-use Rattle.std.proofs.Common.{◌≡◌, ℕ, zero, suc, ◌+◌, ◌*◌, ◌/◌, ◌%◌, ◌<◌, ◌≤◌, add-mul, arith}
+use Rattle.std.proofs.Common.{◌≡◌, ℕ, zero, suc, ◌+◌, ◌*◌, ◌/◌, ◌%◌, ◌<◌, ◌≤◌, min, add-mul, suc-mul, arith}
 use Rattle.std.proofs.lemmas.Bool.Decides.{nat_tests}
 use Rattle.seconds.specs.Corrections.{corrects, corrected, one_if, how_many, counted}
 use Rattle.seconds.specs.declared.calibration.Calibration.{Calibration}
@@ -18,6 +18,26 @@ corrected_next k n =
 pub corrected_cycle : (k : Calibration) (n : ℕ) → corrected k (n + 3840) ≡ corrected k n + corrected k 3840
 unfolding corrected
 corrected_cycle k n = grind (arith, add-mul (n / 3840) 1 (2 * k.magnitude))
+
+-- a cycle has 2c corrected seconds
+pub corrected_all : (k : Calibration) → corrected k 3840 ≡ 2 * k.magnitude
+unfolding corrected
+corrected_all k =
+    let small : k.magnitude < 32 = k.small in
+    omega arith
+
+-- the code's way: whole cycles, and the seconds of one
+pub corrected_over : (k : Calibration) (cycles index : ℕ) → corrected k (cycles * 3840 + index) ≡ cycles * (2 * k.magnitude) + corrected k index
+corrected_over k zero index = grind arith
+corrected_over k (suc cycles) index =
+    grind (arith, corrected_cycle k (cycles * 3840 + index), corrected_over k cycles index, corrected_all k, suc-mul cycles (2 * k.magnitude))
+
+-- within a cycle the formula has no whole cycles to count
+pub corrected_before : (k : Calibration) (index : ℕ) → index ≤ 3840 → min (2 * k.magnitude) ((index + 59) / 60) ≡ corrected k index
+unfolding corrected
+corrected_before k index h =
+    let small : k.magnitude < 32 = k.small in
+    grind arith
 
 pub corrected_most : (k : Calibration) (index : ℕ) → index ≤ 3840 → corrected k index ≤ 62
 unfolding corrected

@@ -28,7 +28,7 @@ runs_at k w index gone r runs left e =
 
 module _ (k : Calibration) where
   -- a second starts within half a second of where a plain one would
-  near : (n : ℕ) → n ≤ 3840
+  pub near : (n : ℕ) → n ≤ 3840
       → (32768 * n ≤ start k n + 15872 * bool_byte k.shortens) × (start k n + 15872 * bool_byte k.shortens ≤ 32768 * n + 15872)
   near n h = grind (arith, start_accounted k n, corrected_most k n h)
 

@@ -9,8 +9,8 @@ use Rattle.steps.proofs.Laws.{iterate_add}
 use Rattle.seconds.specs.Corrections.{corrected}
 use Rattle.seconds.specs.Laws.{Numbered, CorrectedByFormula}
 use Rattle.seconds.specs.Lengths.{units_of, length_at}
-use Rattle.seconds.specs.Starts.{RunsAt, start}
-use Rattle.seconds.specs.Units.{Running, Run, starting, index_after, none, counts_of, if_shortened, if_lengthened, and_one, ends, next_second, goes_on, unit, begun}
+use Rattle.seconds.specs.Starts.{RunsAt, start, counts_of}
+use Rattle.seconds.specs.Units.{Running, Run, starting, index_after, none, if_shortened, if_lengthened, and_one, ends, next_second, goes_on, unit, begun}
 use Rattle.seconds.specs.declared.calibration.Calibration.{Calibration}
 use Rattle.seconds.specs.declared.counts.Counts.{Counts}
 use Rattle.seconds.proofs.Corrected.{corrected_next, corrected_grows}

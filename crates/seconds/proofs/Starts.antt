@@ -30,7 +30,7 @@ start_accounted k (suc n) = grind (arith, start_accounted k n, start_next k n, c
 pub start_by_length : (k : Calibration) (n : ℕ) → start k n ≡ (n - corrected k n) * 32768 + corrected k n * units_of (correction k)
 start_by_length k n = grind (arith, start_accounted k n, corrected_within k n)
 
-start_cycle : (k : Calibration) (n : ℕ) → start k (n + 3840) ≡ start k n + start k 3840
+pub start_cycle : (k : Calibration) (n : ℕ) → start k (n + 3840) ≡ start k n + start k 3840
 start_cycle k n = grind (arith, start_accounted k n, start_accounted k 3840, start_accounted k (n + 3840), corrected_cycle k n)
 
 pub start_over : (k : Calibration) (cycles index : ℕ) → start k (cycles * 3840 + index) ≡ cycles * start k 3840 + start k index

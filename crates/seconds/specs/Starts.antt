@@ -1,11 +1,12 @@
 -- When each second begins, in units from a new cycle: how the code goes many units on.
 -- That it comes to as many single units is proved.
 -- Assumes nothing.
-use Rattle.std.specs.Prelude.{◌≡◌, ℕ, zero, suc, ◌+◌, ◌%◌, ◌<◌}
+use Rattle.std.specs.Prelude.{◌≡◌, ℕ, zero, suc, ◌+◌, ◌%◌, ◌<◌, if◌then◌else◌}
 use Rattle.seconds.specs.Laws.{Numbered}
 use Rattle.seconds.specs.Lengths.{units_of, length_at}
 use Rattle.seconds.specs.Units.{Running}
 use Rattle.seconds.specs.declared.calibration.Calibration.{Calibration}
+use Rattle.seconds.specs.declared.counts.Counts.{Counts}
 
 -- the units from a new cycle to the start of second n, while the calibration stays as it is
 unfoldable pub start : Calibration → ℕ → ℕ
@@ -17,3 +18,12 @@ pub record RunsAt (k : Calibration) (units n : ℕ) (r : Running) : Type 0 where
   pub numbered : Numbered k n r
   pub within : r.gone < units_of r.length
   pub exact : start k n + r.gone ≡ units
+
+-- so many seconds of one calibration, of which so many are corrected, all of them the way of its sign
+abbrev pub counts_of : Calibration → ℕ → ℕ → Counts
+counts_of k seconds corrected =
+    record {
+      seconds = seconds;
+      shortened = if k.shortens then corrected else 0;
+      lengthened = if k.shortens then 0 else corrected;
+    }

@@ -38,15 +38,6 @@ ends r = r.gone + 1 == units_of r.length
 abbrev pub none : Counts
 none = record { seconds = 0; shortened = 0; lengthened = 0 }
 
--- so many seconds of one calibration, of which so many are corrected, all of them the way of its sign
-abbrev pub counts_of : Calibration → ℕ → ℕ → Counts
-counts_of k seconds corrected =
-    record {
-      seconds = seconds;
-      shortened = if k.shortens then corrected else 0;
-      lengthened = if k.shortens then 0 else corrected;
-    }
-
 abbrev pub if_shortened : Length → ℕ
 if_shortened Shortened = 1
 if_shortened Plain = 0

@@ -1,7 +1,8 @@
 //! The seconds that ended.
 
 ghost use Rattle.std.specs.Prelude.{◌≡◌, ◌^◌, ◌<◌};
-ghost use Rattle.seconds.specs.Units.{and_one, counts_of};
+ghost use Rattle.seconds.specs.Starts.{counts_of};
+ghost use Rattle.seconds.specs.Units.{and_one};
 
 use crate::calibration::Calibration;
 use crate::length::Length;

@@ -1,11 +1,8 @@
 -- Within a cycle the formula has no whole cycles to count.
 -- Assumes nothing.
-use Rattle.std.proofs.Common.{◌<◌, arith}
-use Rattle.seconds.specs.Corrections.{corrected}
+use Rattle.std.proofs.Common.{arith}
+use Rattle.seconds.proofs.Corrected.{corrected_before}
 use Rattle.seconds.proofs.calibration.Calibration.corrected_before.Goals as goal
 
 pub returns : goal.returns
-unfolding corrected
-returns c =
-    let small : c.args.self.magnitude < 32 = c.args.self.small in
-    grind arith
+returns c = omega (arith, corrected_before c.args.self c.args.index c.requires)

@@ -6,7 +6,8 @@ use Rattle.seconds.specs.Corrections.{corrected}
 use Rattle.seconds.specs.Laws.{Accounted, Parted, Fits32Bits, Numbered, CorrectedByFormula}
 use Rattle.seconds.specs.Lengths.{units_of}
 use Rattle.seconds.specs.Of.{running_of, run_of}
-use Rattle.seconds.specs.Units.{Running, Run, and_one, counts_of, unit, begun}
+use Rattle.seconds.specs.Starts.{counts_of}
+use Rattle.seconds.specs.Units.{Running, Run, and_one, unit, begun}
 use Rattle.seconds.specs.declared.calibration.Calibration.{Calibration}
 use Rattle.seconds.specs.declared.counts.Counts.{Counts}
 use Rattle.seconds.proofs.Accounts.{accounted, parted, fits}
