@@ -55,9 +55,11 @@ enum Failure {
 fn controls_in(rt: &HostRuntime, args: Args) -> Result<Vec<u8>, Failure> {
     let mut controls = Vec::new(rt.alloc());
     for text in args {
-        let control = u8::from_str_radix(text.as_str(), 16).map_err(|_| Failure::NotControl(text))?;
-        // A room that is refused is not asked for again, as a `try_collect` would.
-        controls.push(control)?;
+        match u8::from_str_radix(text.as_str(), 16) {
+            // `push` asks for room once; `try_collect` would ask again where it is refused.
+            Ok(control) => controls.push(control)?,
+            Err(_) => return Err(Failure::NotControl(text)),
+        }
     }
     if controls.is_empty() {
         return Err(Failure::MissingControl);

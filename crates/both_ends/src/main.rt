@@ -54,9 +54,11 @@ enum Failure {
 fn numbers(rt: &HostRuntime) -> Result<Vec<u64>, Failure> {
     let mut numbers = Vec::new(rt.alloc());
     for argument in env::args(rt)?.skip(1) {
-        let number = hex_number(&argument).ok_or(Failure::NotNumber(argument))?;
-        // A room that is refused is not asked for again, as a `try_collect` would.
-        numbers.push(number)?;
+        match hex_number(&argument) {
+            // `push` asks for room once; `try_collect` would ask again where it is refused.
+            Some(number) => numbers.push(number)?,
+            None => return Err(Failure::NotNumber(argument)),
+        }
     }
     Ok(numbers)
 }

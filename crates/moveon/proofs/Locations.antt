@@ -35,20 +35,21 @@ module _ (line : List ℕ) (i : ℕ) (bytes : List ℕ) (place : ℕ) where
   unfolding bytes_from
   no_byte_more fault h e = sym (ap (behind (take i bytes)) (one_left h) ∙ ap from_first (sym e))
 
-  -- past a byte that was read, the others go on
+  -- where the next byte leads, by whether it is read
+  one_field : (r : Result (ℕ × ℕ) LineFault) → i < 7 → r ≡ byte_from line place
+      → (if is_ok r then bytes_end (7 - (i + 1)) line (field_from line place).end else (field_from line place).end) ≡ bytes_end (7 - i) line place
+  unfolding bytes_end
+  one_field r h e =
+      let end : ℕ = (field_from line place).end in
+      let n : 7 - i ≡ suc (7 - (i + 1)) = omega arith in
+      ap (λ s. if is_ok s then bytes_end (7 - (i + 1)) line end else end) e ∙ sym (ap (λ m. bytes_end m line place) n)
+
   pub goes_further : (byte end : ℕ) → i < 7 → Ok (byte, end) ≡ byte_from line place
       → bytes_end (7 - (i + 1)) line (field_from line place).end ≡ bytes_end (7 - i) line place
-  unfolding bytes_end
-  goes_further byte end h e =
-      let n : 7 - i ≡ suc (7 - (i + 1)) = omega arith in
-      sym (ap (λ m. bytes_end m line place) n ∙ ap (λ r. if is_ok r then bytes_end (7 - (i + 1)) line (field_from line place).end else (field_from line place).end) (sym e))
+  goes_further byte end h e = one_field (Ok (byte, end)) h e
 
-  -- past a fault nothing is read
   pub stops_there : (fault : LineFault) → i < 7 → Err fault ≡ byte_from line place → (field_from line place).end ≡ bytes_end (7 - i) line place
-  unfolding bytes_end
-  stops_there fault h e =
-      let n : 7 - i ≡ suc (7 - (i + 1)) = omega arith in
-      sym (ap (λ m. bytes_end m line place) n ∙ ap (λ r. if is_ok r then bytes_end (7 - (i + 1)) line (field_from line place).end else (field_from line place).end) (sym e))
+  stops_there fault h e = one_field (Err fault) h e
 
   -- past all seven it stops
   pub all_past : 7 ≤ i → place ≡ bytes_end (7 - i) line place

@@ -56,7 +56,7 @@ bytes_from (suc n) line from =
     and_then (bytes_from n line first.1) (λ others.
     Ok (first.0 ∷ others.0, others.1)))
 
--- where reading n bytes stops: past the last of their fields, or past the first that writes no byte
+-- where reading n bytes stops: past the last of their fields, or past the first that writes no byte (the line's end, if one is missing)
 unfoldable pub bytes_end : ℕ → List ℕ → ℕ → ℕ
 bytes_end zero line from = from
 bytes_end (suc n) line from =

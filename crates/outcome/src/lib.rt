@@ -8,8 +8,8 @@ ghost use Rattle.std.specs.Process.{exit_status};
 use std::fmt::Display;
 use std::process::ExitCode;
 
-/// The status that a program ends with: 0, or 1 where it failed, and then it says why on standard error, behind its
-/// name, where that takes the words.
+/// The status that a program ends with: 0, or 1 where it failed; why is then written on standard error, behind its
+/// name, if standard error takes it.
 pub fn exit_code<E: Display + Drop>(
     rt: &impl Eprint,
     program: &str,

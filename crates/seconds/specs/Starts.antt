@@ -1,4 +1,4 @@
--- When each second begins, in units from a new cycle: how the code goes many units on.
+-- When each second begins, in units from a new cycle, and what many seconds count: how the code goes many units on.
 -- That it comes to as many single units is proved.
 -- Assumes nothing.
 use Rattle.std.specs.Prelude.{◌≡◌, ℕ, zero, suc, ◌+◌, ◌%◌, ◌<◌, if◌then◌else◌}
